@@ -9,10 +9,10 @@ use Rattle.organism.specs.OrganismState.{OrganismState}
 use Rattle.organism.specs.UpdateLife.{clean_text, written_text, child_range, birth_record, after_child, child_letters}
 
 -- what follows for each value
-pub IfOk-map : {A : Type 0} {E : Type 0} (P Q : A → Type 0) → ((a : A) → P a → Q a)
-    → (r : Result A E) → IfOk r P → IfOk r Q
-IfOk-map P Q f (Ok a) h = f a h
-IfOk-map P Q f (Err e) h = tt
+pub IfOk-then : {A : Type 0} {E : Type 0} (P Q : A → Type 0) (r : Result A E) → IfOk r P
+    → ((a : A) → P a → Q a) → IfOk r Q
+IfOk-then P Q (Ok a) h f = f a h
+IfOk-then P Q (Err e) h f = tt
 
 -- what follows from two facts of each value
 pub IfOk-map2 : {A : Type 0} {E : Type 0} (P Q R : A → Type 0) → ((a : A) → P a → Q a → R a)
@@ -21,20 +21,10 @@ IfOk-map2 P Q R f (Ok a) h k = f a h k
 IfOk-map2 P Q R f (Err e) h k = tt
 
 -- what follows from a fact that no value is in
-pub OnOk-map : {A : Type 0} {E : Type 0} (P Q : Type 0) → (P → Q) → (r : Result A E) → OnOk r P
-    → OnOk r Q
-OnOk-map P Q f (Ok a) h = f h
-OnOk-map P Q f (Err e) h = tt
-
--- the same where the fact comes first
 pub OnOk-then : {A : Type 0} {E : Type 0} (P Q : Type 0) (r : Result A E) → OnOk r P → (P → Q)
     → OnOk r Q
-OnOk-then P Q r h f = OnOk-map P Q f r h
-
--- what follows for each value, where the fact comes first
-pub IfOk-then : {A : Type 0} {E : Type 0} (P Q : A → Type 0) (r : Result A E) → IfOk r P
-    → ((a : A) → P a → Q a) → IfOk r Q
-IfOk-then P Q r h f = IfOk-map P Q f r h
+OnOk-then P Q (Ok a) h f = f h
+OnOk-then P Q (Err e) h f = tt
 
 -- the record that two texts and a genome have, which are those of the divide
 pub birth_record-of : (settings : SettingNumbers) (words : ℕ → ℕ) (k : ℕ) (o : OrganismState)

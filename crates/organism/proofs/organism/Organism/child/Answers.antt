@@ -4,7 +4,7 @@ use Rattle.random_streams.specs.RandomStream.{word_of}
 use Rattle.organism.specs.OrganismState.{OrganismState}
 use Rattle.organism.specs.SettingNumbers.{setting_numbers}
 use Rattle.organism.specs.UpdateLife.{clean_text, written_text}
-use Rattle.organism.proofs.BirthLemmas.{IfOk-map, IfOk-map2, IfOk-then, OnOk-then, birth_record-of, after_child-of, child_letters-of, child_part-length}
+use Rattle.organism.proofs.BirthLemmas.{IfOk-map2, IfOk-then, OnOk-then, birth_record-of, after_child-of, child_letters-of, child_part-length}
 use Rattle.organism.proofs.organism.Organism.child.Goals as goal
 
 pub divide_errors-requires-clause-texts : goal.divide_errors-requires-clause-texts
@@ -43,10 +43,9 @@ parent c = ap letters c.deref.ensures ∙ ap (λ (o : OrganismState). o.genome) 
 
 pub returns-clause-origin : goal.returns-clause-origin
 returns-clause-origin c =
-    IfOk-map _ _ (λ born h. h
+    IfOk-then _ _ c.divide_errors.result c.divide_errors.ensures.origin (λ born h. h
     ∙ birth_record-of (setting_numbers c.args.settings.now) (word_of c.args.draws.now)
-    c.args.draws.now.taken c.args.self.now c.args.ask.now _ _ _ (clean c) (written c)
-    (parent c)) c.divide_errors.result c.divide_errors.ensures.origin
+    c.args.draws.now.taken c.args.self.now c.args.ask.now _ _ _ (clean c) (written c) (parent c))
 
 pub returns-clause-genome : goal.returns-clause-genome
 returns-clause-genome c =
