@@ -22,8 +22,7 @@ use Rattle.mutations.proofs.PointLemmas.{OneIndex}
 moved : (F : Stream → ℕ → Drawn) (stream there : Stream) (len size : ℕ) (from to : PassState)
     → stream ≡ there → len ≡ size → Passed (F stream len) from to → Passed (F there size) from to
 moved F stream there len size from to streams sizes passed =
-    subst (λ (n : ℕ). Passed (F there n) from to) sizes
-    (subst (λ (s : Stream). Passed (F s len) from to) streams passed)
+    rw (streams, sizes) at passed
 
 -- a text that has its site points, and the changes that tell them
 pub record Pointed (rate : ℕ) (clean written : List Letter) (before : Stream) (pointed : PassState)
@@ -54,7 +53,7 @@ drawn_by_divide-passed rates range clean written before pointed longer child poi
     let first : Drawn = record { changes = points_from 0 clean pointed.text; next = next } in
     let one : Passed first start pointed =
     record {
-      made = subst (λ (cs : List Change). Makes cs clean pointed.text) points.changes points.made;
+      made = rw points.changes at points.made;
       noted = points.changes;
       taken = points.taken;
     } in

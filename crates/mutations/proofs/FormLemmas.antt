@@ -76,10 +76,8 @@ order-deletes : (changes : List Change) → AllByRecursion (IsIndel Deletion) ch
 order-deletes [] all = refl
 order-deletes (Delete at ∷ []) all = refl
 order-deletes (Delete at ∷ Delete next ∷ changes) all = order-deletes (Delete next ∷ changes) all.1
-order-deletes (Delete at ∷ Insert next letter ∷ changes) all = absurd all.1.0
-order-deletes (Delete at ∷ Point next letter ∷ changes) all = absurd all.1.0
-order-deletes (Insert at letter ∷ changes) all = absurd all.0
-order-deletes (Point at letter ∷ changes) all = absurd all.0
+order-deletes (Delete at ∷ _ ∷ changes) all = absurd all.1.0
+order-deletes (_ ∷ changes) all = absurd all.0
 
 -- deletions may come after anything but a point before them
 leads-deletes : (at : ℕ) (letter : Letter) (changes : List Change)
@@ -87,8 +85,7 @@ leads-deletes : (at : ℕ) (letter : Letter) (changes : List Change)
     → (leads (Insert at letter) changes ≡ true) × (leads (Point at letter) changes ≡ true)
 leads-deletes at letter [] all = (refl, refl)
 leads-deletes at letter (Delete next ∷ changes) all = (refl, refl)
-leads-deletes at letter (Insert next other ∷ changes) all = absurd all.0
-leads-deletes at letter (Point next other ∷ changes) all = absurd all.0
+leads-deletes at letter (_ ∷ changes) all = absurd all.0
 
 -- insertions, then deletions, behind points
 pub record IsTail (changes : List Change) : Type 0 where
@@ -112,8 +109,7 @@ tail (Insert at letter ∷ longer) shorter inserts deletes =
       after_insert = λ _ _. refl;
       after_point = λ _ _. refl;
     }
-tail (Delete at ∷ longer) shorter inserts deletes = absurd inserts.0
-tail (Point at letter ∷ longer) shorter inserts deletes = absurd inserts.0
+tail (_ ∷ longer) shorter inserts deletes = absurd inserts.0
 
 -- changes that may come after points before a place
 pub record GoesOn (at : ℕ) (changes : List Change) : Type 0 where
@@ -138,13 +134,11 @@ goes_on-next false at letter points rest others = record {
 -- the points of a text come in rising order before the others
 points-order : (at : ℕ) (clean text : List Letter) (rest : List Change) → IsTail rest
     → GoesOn at (points_from at clean text ++ rest)
-points-order at [] text rest others =
-    record { order = others.order; after_point = λ before was h. others.after_point before was }
-points-order at (was ∷ clean) [] rest others =
-    record { order = others.order; after_point = λ before was h. others.after_point before was }
 points-order at (was ∷ clean) (letter ∷ text) rest others =
     goes_on-next (same_letter was letter) at letter (points_from (at + 1) clean text) rest
     (points-order (at + 1) clean text rest others)
+points-order at _ _ rest others =
+    record { order = others.order; after_point = λ before was h. others.after_point before was }
 
 -- all changes of a birth are in order
 drawn-order : (words : ℕ → ℕ) (k : ℕ) (rates : RateNumbers) (limits : LengthRange)

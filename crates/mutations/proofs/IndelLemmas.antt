@@ -1,10 +1,10 @@
 -- Indels, drawn one at a time: what they make of a text.
-use Rattle.std.proofs.Common.{◌≡◌, refl, sym, ◌∙◌, ap, subst, ℕ, ◌+◌, ◌<◌, ◌≤◌, Bool, true, false, cond, ltb, ◌&&◌, List, [], ◌∷◌, ◌++◌, length, Ok, arith, append_assoc, length-append}
+use Rattle.std.proofs.Common.{◌≡◌, refl, sym, ◌∙◌, ap, ℕ, ◌+◌, ◌<◌, ◌≤◌, Bool, true, false, cond, ltb, ◌&&◌, List, [], ◌∷◌, ◌++◌, length, Ok, arith, append_assoc, length-append}
 use Rattle.std.proofs.lemmas.List.Edits.{length-insert, length-remove}
 use Rattle.std.specs.List.{AllByRecursion, insert, remove}
 use Rattle.instruction_set.specs.declared.letter.Letter.{Letter}
 use Rattle.mutations.specs.declared.change.Change.{Change}
-use Rattle.mutations.specs.declared.change.Change.TheVariants.{Point, Insert, Delete}
+use Rattle.mutations.specs.declared.change.Change.TheVariants.{Insert, Delete}
 use Rattle.mutations.specs.declared.indels.Indel.{Indel}
 use Rattle.mutations.specs.declared.indels.Indel.TheVariants.{Insertion, Deletion}
 use Rattle.mutations.specs.declared.stop.ApplyStop.TheVariants.{Place, Length}
@@ -42,8 +42,7 @@ changes-resize Insertion nth (Insert at letter ∷ changes) from to all made =
     length-insert from at letter le in
     let more = changes-resize Insertion (nth + 1) changes (insert from at letter) to all.1 step.2 in
     omega (arith, longer, more)
-changes-resize Insertion nth (Point at letter ∷ changes) from to all made = absurd all.0
-changes-resize Insertion nth (Delete at ∷ changes) from to all made = absurd all.0
+changes-resize Insertion nth (_ ∷ changes) from to all made = absurd all.0
 changes-resize Deletion nth [] from to all made =
     let same : from ≡ to = cc in let l : length from ≡ length to = ap length same in omega arith
 changes-resize Deletion nth (Delete at ∷ changes) from to all made =
@@ -54,8 +53,7 @@ changes-resize Deletion nth (Delete at ∷ changes) from to all made =
     let shorter : length (remove from at) + 1 ≡ length from = length-remove from at lt in
     let more = changes-resize Deletion (nth + 1) changes (remove from at) to all.1 step.2 in
     omega (arith, shorter, more)
-changes-resize Deletion nth (Point at letter ∷ changes) from to all made = absurd all.0
-changes-resize Deletion nth (Insert at letter ∷ changes) from to all made = absurd all.0
+changes-resize Deletion nth (_ ∷ changes) from to all made = absurd all.0
 
 -- the length that the definition names
 pub length_after-is : (kind : Indel) (changes : List Change) (from to : List Letter)
@@ -204,5 +202,4 @@ Room-middle kind range front letter rest fits room = record {
 pub Makes-kept : (front : List Letter) (letter : Letter) (rest : List Letter)
     → Makes [] (front ++ letter ∷ rest) ((front ++ letter ∷ []) ++ rest)
 Makes-kept front letter rest =
-    subst (λ (to : List Letter). Makes [] (front ++ letter ∷ rest) to)
-    (sym (append_assoc front (letter ∷ []) rest)) (Makes-none (front ++ letter ∷ rest))
+    rw (append_assoc front (letter ∷ []) rest) (Makes-none (front ++ letter ∷ rest))

@@ -32,23 +32,10 @@ Passed-indel : (kind : Indel) (range : LengthRange) (spot : Spot) (before after 
     ≡ after.text → Notes kind spot before after
     → Passed (indel_at kind (word_of before.draws) spot) before after
 Passed-indel kind range spot before after room made notes = record {
-  made = subst (λ (to : List Letter).
-      Makes (indel_at kind (word_of before.draws) spot).changes before.text to) made
-      (Makes-indel kind range (word_of before.draws) spot before.text room);
+  made = rw made at (Makes-indel kind range (word_of before.draws) spot before.text room);
   noted = notes.changes;
   taken = notes.draws;
 }
-
--- a test that hit
-drawn-of : (kind same : Indel) → same ≡ kind → (hit : Bool) → hit ≡ true → (spot : Spot)
-    (none : Drawn) (before after : PassState)
-    → Passed (indel_at kind (word_of before.draws) spot) before after
-    → Passed (cond hit (indel_at same (word_of before.draws) spot) none) before after
-drawn-of kind same is hit true_hit spot none before after passed =
-    subst (λ (b : Bool).
-    Passed (cond b (indel_at same (word_of before.draws) spot) none) before after) (sym true_hit)
-    (subst (λ (k : Indel). Passed (indel_at k (word_of before.draws) spot) before after) (sym is)
-    passed)
 
 -- the test of a letter drew an indel
 pub Passed-site : (test : IndelTest) (kind : Indel) (done next : PassState) (letter : Letter)
@@ -68,20 +55,14 @@ Passed-site test kind done next letter rest len is size fits hit text notes =
     let whole : len ≡ length (done.text ++ letter ∷ rest) =
     omega (arith, length-append done.text (letter ∷ rest)) in
     let room : has_room kind (test_range test) (length (done.text ++ letter ∷ rest)) ≡ true =
-    subst (λ (k : Indel). has_room k (test_range test) (length (done.text ++ letter ∷ rest)) ≡ true)
-    is (subst (λ (n : ℕ). has_room test.kind (test_range test) n ≡ true) whole
-    (second-passes (hits (next_word done.draws) test.rate)
-    (has_room test.kind (test_range test) len) hit)) in
+    rw (whole, is) at (second-passes (hits (next_word done.draws) test.rate)
+    (has_room test.kind (test_range test) len) hit) in
     let here : Room kind (test_range test) (length done.text) (done.text ++ letter ∷ rest) =
-    Room-middle kind (test_range test) done.text letter rest
-    (subst (λ (n : ℕ). Fits (test_range test) n) whole fits) room in
+    Room-middle kind (test_range test) done.text letter rest (rw whole at fits) room in
     let made : with_indel kind (length done.text) drawn (done.text ++ letter ∷ rest)
     ≡ next.text ++ rest = with_indel-middle kind drawn done.text letter rest
     ∙ ap (λ (front : List Letter). front ++ rest) (sym text) in
-    drawn-of kind test.kind is
-    (hits (next_word done.draws) test.rate && has_room test.kind (test_range test) len) hit spot
-    (none_by (done.draws.taken + 1)) (with_rest done (letter ∷ rest)) (with_rest next rest)
-    (Passed-indel kind (test_range test) spot (with_rest done (letter ∷ rest))
+    rw (hit, is) (Passed-indel kind (test_range test) spot (with_rest done (letter ∷ rest))
     (with_rest next rest) here made
     (record { changes = notes.changes; draws = notes.draws }))
 
@@ -115,11 +96,8 @@ IndelsLeft-next test whole start done next letter rest passed left =
     let taken : here.next ≡ next.draws.taken = sym (ap (λ (s : Stream). s.taken) p.taken) in
     let others : ℕ → ℕ → Drawn =
     λ at k. indels_from test words (length rest) (record { place = at; word = k }) in
-    let goes : others (length_after test.kind here.changes (length done.text + 1)) here.next
-    ≡ others (length next.text) next.draws.taken =
-    ap (λ (at : ℕ). others at here.next) place ∙ ap (others (length next.text)) taken in
-    subst (λ (d : Drawn). Left d whole start to) goes
-    (Left-next here (others (length_after test.kind here.changes (length done.text + 1)) here.next)
+    rw (place, taken) at (Left-next here
+    (others (length_after test.kind here.changes (length done.text + 1)) here.next)
     whole start from to p left)
 
 -- one step of the loop over a text
@@ -139,8 +117,7 @@ IndelsLeft-step test whole start done next text at inside passed left =
     omega (arith, length-drop (at + 1) text) in
     let p : Passed (site_indel test (word_of done.draws) (length done.text + suc (length rest))
     spot) (with_rest done (letter ∷ rest)) (with_rest next rest) =
-    subst (λ (n : ℕ). Passed (site_indel test (word_of done.draws) (length done.text + n) spot)
-    (with_rest done (letter ∷ rest)) (with_rest next rest)) size passed in
+    rw size at passed in
     IndelsLeft-next test whole start done next letter rest p
     (subst (λ (r : List Letter). IndelsLeft test whole start done r) (drop-here text at inside)
     left)
@@ -150,12 +127,7 @@ pub IndelsLeft-end : (test : IndelTest) (whole : Drawn) (start done : PassState)
     (rest : List Letter)
     → rest ≡ [] → IndelsLeft test whole start done rest → Passed whole start done
 IndelsLeft-end test whole start done rest none left =
-    let ended : Left (none_by done.draws.taken) whole start (with_rest done []) =
-    subst (λ (r : List Letter). IndelsLeft test whole start done r) none left in
-    Left-none whole start done
-    (subst (λ (text : List Letter). Left (none_by done.draws.taken) whole start
-    (record { text = text; changes = done.changes; draws = done.draws }))
-    (append-nil done.text) ended)
+    Left-none whole start done (rw (none, append-nil) at left)
 
 -- the length after drawn indels
 pub size-after : (kind : Indel) (drawn : Drawn) (before after : PassState) → AreOfKind kind drawn
@@ -173,10 +145,7 @@ pub draft-passed : (kind : Indel) (f : (ℕ → ℕ) → Draft → Drawn) (drawn
     → Passed (f (word_of before.draws) (draft_after kind drawn
     (record { size = length before.text; word = before.draws.taken }))) between after
 draft-passed kind f drawn before between after kinds first second =
-    let size : length between.text ≡ length_after kind drawn.changes (length before.text) =
-    sym (size-after kind drawn before between kinds first) in
-    subst (λ (n : ℕ).
-    Passed (f (word_of before.draws) (record { size = n; word = drawn.next })) between after) size
+    rw (size-after kind drawn before between kinds first)
     (subst (λ (s : Stream).
     Passed (f (word_of s) (record { size = length between.text; word = s.taken })) between after)
     first.taken second)
@@ -197,14 +166,10 @@ indels-passed kind rates range each single before between after is_each is_singl
     let a : IndelTest = test_at kind (site_rate kind rates) range in
     let b : IndelTest = test_at kind (single_rate kind rates) range in
     let sites : Drawn = site_indels a (word_of before.draws) draft in
-    let one : Passed sites before between =
-    subst (λ (t : IndelTest). Passed (site_indels t (word_of before.draws) draft) before between)
-    is_each first in
+    let one : Passed sites before between = rw is_each at first in
     let two : Passed (single_indel b (word_of between.draws)
     (record { size = length between.text; word = between.draws.taken })) between after =
-    subst (λ (t : IndelTest). Passed (single_indel t (word_of between.draws)
-    (record { size = length between.text; word = between.draws.taken })) between after) is_single
-    second in
+    rw is_single at second in
     Passed-append sites (single_indel b (word_of before.draws) (draft_after kind sites draft))
     before between after one
     (draft-passed kind (single_indel b) sites before between after

@@ -1,5 +1,5 @@
 -- Each record that words draw applies, and its child has a length within the limits.
-use Rattle.std.proofs.Common.{◌≡◌, refl, sym, ap, subst, ℕ, suc, ◌+◌, ◌-◌, ◌*◌, ◌<◌, ◌≤◌, ◌^◌, eqb, ◌&&◌, List, [], ◌∷◌, ◌++◌, length, IsOkAnd, arith, append_assoc, length-append, lit<}
+use Rattle.std.proofs.Common.{◌≡◌, refl, sym, ap, subst, ℕ, suc, ◌+◌, ◌*◌, ◌<◌, ◌≤◌, ◌^◌, eqb, ◌&&◌, List, [], ◌∷◌, ◌++◌, length, IsOkAnd, arith, append_assoc, length-append, lit<}
 use Rattle.std.proofs.Math.Nat.{div-lt_iff_lt-mul, mul-le-mul_left}
 use Rattle.instruction_set.specs.declared.letter.Letter.{Letter}
 use Rattle.genome.specs.Genome.{IsGenome}
