@@ -19,11 +19,7 @@ below_four P p0 p1 p2 p3 (suc (suc (suc (suc n)))) h = absurd (omega arith)
 each_row : (P : List ℕ → Type 0) → ((a b c d : ℕ) → P (a ∷ b ∷ c ∷ d ∷ []))
     → (xs : List ℕ) → length xs ≡ 4 → P xs
 each_row P p (a ∷ b ∷ c ∷ d ∷ []) h = p a b c d
-each_row P p [] h = absurd (omega arith)
-each_row P p (a ∷ []) h = absurd (omega arith)
-each_row P p (a ∷ b ∷ []) h = absurd (omega arith)
-each_row P p (a ∷ b ∷ c ∷ []) h = absurd (omega arith)
-each_row P p (a ∷ b ∷ c ∷ d ∷ e ∷ xs) h = absurd (omega arith)
+each_row P p _ h = absurd (omega arith)
 
 -- two shifts of each lane and an or are a rotation
 abbrev Rotates : ℕ → List ℕ → List ℕ → Type 0
