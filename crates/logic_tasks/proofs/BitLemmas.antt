@@ -25,9 +25,7 @@ by_bits P none second first both zero zero h k = none
 by_bits P none second first both zero (suc zero) h k = second
 by_bits P none second first both (suc zero) zero h k = first
 by_bits P none second first both (suc zero) (suc zero) h k = both
-by_bits P none second first both zero (suc (suc b)) h k = absurd (omega arith)
-by_bits P none second first both (suc zero) (suc (suc b)) h k = absurd (omega arith)
-by_bits P none second first both (suc (suc a)) b h k = absurd (omega arith)
+by_bits P none second first both _ _ h k = absurd (omega arith)
 
 -- the lesser of two bits is 1 just where both are
 pub bit-and : (a b : ℕ) → a < 2 → b < 2 → (min a b == 1) ≡ ((a == 1) && (b == 1))
