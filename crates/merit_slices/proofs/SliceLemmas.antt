@@ -1,5 +1,5 @@
 -- Quotients that rise, and their differences.
-use Rattle.std.proofs.Common.{◌≡◌, ◌∙◌, sym, ap, ℕ, zero, suc, ◌+◌, ◌-◌, ◌*◌, ◌/◌, ◌<◌, ◌≤◌, ◌^◌, List, length, take, map, sum, cond, get_or, subst, add-one, arith, inl, inr}
+use Rattle.std.proofs.Common.{◌≡◌, ◌∙◌, sym, ap, ℕ, zero, suc, ◌+◌, ◌-◌, ◌*◌, ◌/◌, ◌<◌, ◌≤◌, ◌^◌, List, length, take, map, sum, cond, get_or, add-one, arith, inl, inr}
 use Rattle.std.proofs.Math.Nat.{div-mul-le_self, mul-le-mul_left, mul-le-mul, div-le_of_le-mul, mul-div_cancel, mul-add-div_right}
 use Rattle.std.proofs.Math.Seq.{take-length}
 use Rattle.std.proofs.lemmas.Bool.{cases_lt}
@@ -85,8 +85,7 @@ sum-shares merits steps (suc n) some within =
     let all : sum (map (share_of merits steps) (range_with_len 0 (n + 1)))
     ≡ steps_before merits steps (n + 1) =
     omega (arith, one, sum-shares merits steps n some (omega arith), rises) in
-    subst (λ (k : ℕ). sum (map (share_of merits steps) (range_with_len 0 k))
-    ≡ steps_before merits steps k) (add-one n) all
+    rw (add-one n) at all
 
 -- all shares are together all steps
 pub sum-shares_of : (merits : List ℕ) (steps : ℕ) → 0 < sum merits
