@@ -1,12 +1,12 @@
 -- The record of a birth and the child that it makes.
-use Rattle.std.proofs.Common.{◌≡◌, refl, sym, ◌∙◌, ap, subst, ℕ, Bool, true, false, cond, List, [], ◌++◌, length, Ok, unwrap_or, Some, None, Option, IsNone, ◌↔◌}
+use Rattle.std.proofs.Common.{◌≡◌, refl, sym, ℕ, inl, inr, List, [], length, Ok, unwrap_or, Option, IsNone, ◌↔◌}
 use Rattle.std.specs.Bool.{Decides}
+use Rattle.std.proofs.lemmas.Bool.{cases_Bool}
 use Rattle.std.proofs.lemmas.Slice.Eq.{slice_eq-Decides}
 use Rattle.instruction_set.specs.declared.letter.Letter.{Letter}
 use Rattle.instruction_set.specs.Letter.{same_letters}
 use Rattle.random_streams.specs.RandomStream.{Stream, word_of}
 use Rattle.mutations.specs.declared.change.Change.{Change}
-use Rattle.mutations.specs.Change.{text_after}
 use Rattle.mutations.specs.Rates.{RateNumbers, LengthRange}
 use Rattle.mutations.specs.declared.indels.Indel.TheVariants.{Insertion, Deletion}
 use Rattle.mutations.specs.DivideErrors.{Drawn, in_turn, pointed_text, after_points, points_from}
@@ -78,11 +78,7 @@ drawn_by_divide-passed rates range clean written before pointed longer child poi
     (D there (length written))) start child =
     Passed-append (in_turn first (I there (length written))) (D there (length written)) start longer
     child both three in
-    subst (λ (t : List Letter). Passed (record {
-      changes = points_from 0 clean t ++ (I there (length written)).changes
-          ++ (D there (length written)).changes;
-      next = (D there (length written)).next;
-    }) start child) points.text all
+    rw (← points.text) all
 
 module _ (one_index : OneIndex) where
   -- the base's text is the clean text, whichever base it is
@@ -91,11 +87,10 @@ module _ (one_index : OneIndex) where
   written_of-clean clean parent =
       let decides : Decides (same_letters clean parent) (clean ≡ parent) =
       slice_eq-Decides one_index clean parent _ refl in
-      let P : Bool → Type 0 = λ same. (same ≡ true → clean ≡ parent)
-      → unwrap_or (cond same None (Some clean)) parent ≡ clean in
-      let cases : (same : Bool) → P same =
-      λ same. elim same as P [ true ↦ λ equal. sym (equal refl) | false ↦ λ equal. refl ] in
-      cases (same_letters clean parent) decides.0
+      elim (cases_Bool (same_letters clean parent)) [
+        | inl same ↦ rw same (sym (decides.0 same))
+        | inr other ↦ rw other
+      ]
 
   -- there is no written text just where the clean text is the parent's genome
   pub written_of-none : (clean parent : List Letter) → IsNone (written_of clean parent)
@@ -103,14 +98,10 @@ module _ (one_index : OneIndex) where
   written_of-none clean parent =
       let decides : Decides (same_letters clean parent) (clean ≡ parent) =
       slice_eq-Decides one_index clean parent _ refl in
-      let P : Bool → Type 0 = λ same. Decides same (clean ≡ parent)
-      → IsNone (cond same None (Some clean)) ↔ (clean ≡ parent) in
-      let cases : (same : Bool) → P same =
-      λ same. elim same as P [
-        | true ↦ λ d. (λ _. d.0 refl, λ _. refl)
-        | false ↦ λ d. (λ h. absurd cc, λ e. sym (d.1 e))
-      ] in
-      cases (same_letters clean parent) decides
+      elim (cases_Bool (same_letters clean parent)) [
+        | inl same ↦ rw same (λ _. decides.0 same, λ _. refl)
+        | inr other ↦ rw other (λ h. absurd cc, λ e. absurd (let is = decides.1 e in cc))
+      ]
 
   -- the record's changes make the child of its base
   pub child_of-made : (parent clean made : List Letter) (written : Option (List Letter))
@@ -120,8 +111,4 @@ module _ (one_index : OneIndex) where
       (record { text = made; changes = changes; draws = after })
       → child_of parent (record { written = written; changes = changes }) ≡ Ok made
   child_of-made parent clean made written drawn changes before after is_written passed =
-      ap (λ (base : List Letter). text_after 1 changes base)
-      (ap (λ (o : Option (List Letter)). unwrap_or o parent) is_written
-      ∙ written_of-clean clean parent)
-      ∙ ap (λ (cs : List Change). text_after 1 cs clean) passed.noted
-      ∙ passed.made.made 1
+      rw (is_written, written_of-clean clean parent, passed.noted, passed.made.made 1)
