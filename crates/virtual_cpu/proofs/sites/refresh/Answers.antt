@@ -1,4 +1,4 @@
-use Rattle.std.proofs.Common.{◌≡◌, ◌<◌, ◌∙◌, ap, arith, length, get_or, set}
+use Rattle.std.proofs.Common.{◌≡◌, ◌<◌, arith, length, get_or}
 use Rattle.std.proofs.lemmas.Grind.{common_steps}
 use Rattle.std.proofs.lemmas.List.Edits.{map_over_more}
 use Rattle.label_search.specs.Site.{Site}
@@ -14,10 +14,9 @@ loop-at-preserved c =
     let read : c.index.result.now ≡ get_or items at c.index.result.now =
     grind (arith, common_steps) in
     record {
-      items = ap (λ (s : Site). set items at s) c.fresh_site.ensures
-          ∙ ap (λ l. set items at (fresh_site l)) c.letter.ensures
-          ∙ map_over_more (λ (s : Site). fresh_site s.letter) first items at c.index.result.now within
-          c.loop-at.invariant.items read;
+      items = rw (c.fresh_site.ensures, c.letter.ensures)
+          (map_over_more (λ (s : Site). fresh_site s.letter) first items at c.index.result.now within
+          c.loop-at.invariant.items read);
       count = c.loop-at.invariant.count;
       capacity = c.loop-at.invariant.capacity;
     }
