@@ -1,7 +1,7 @@
 -- Lawful events, one after another.
-use Rattle.std.proofs.Common.{◌≡◌, ℕ, zero, suc, ◌+◌, Bool, true, false, cond, List, [], ◌∷◌, ◌++◌, take, Some, refl, sym, subst, ap, ◌∙◌, zero-add}
-use Rattle.std.specs.Prelude.{if◌then◌else◌, slice_get, count_by, fold, ◌==◌}
-use Rattle.std.proofs.lemmas.Bool.{eqb-true, eqb-false}
+use Rattle.std.proofs.Common.{◌≡◌, ℕ, zero, suc, ◌+◌, cond, List, [], ◌∷◌, ◌++◌, take, Some, refl, sym, subst, ap, ◌∙◌, zero-add, inl, inr}
+use Rattle.std.specs.Prelude.{slice_get, count_by, fold}
+use Rattle.std.proofs.lemmas.Bool.Decides.{eqb_tells}
 use Rattle.std.proofs.lemmas.List.Sums.{sum_by-append}
 use Rattle.std.proofs.lemmas.Option.{none-some, same_Some}
 use Rattle.std.proofs.lemmas.Grind.{fold-append}
@@ -14,11 +14,8 @@ use Rattle.event_orders.specs.Orders.{is_gather}
 -- what holds of the value given to one place, and elsewhere of the value there, holds at each place
 pub at_either : {X : Type 0} (P : X → Type 0) (f : ℕ → X) (k j : ℕ) (x : X) → (j ≡ k → P x)
     → ((j ≡ k → ⊥) → P (f j)) → P (with_value_at f k x j)
-at_either P f k j x here there = by (j == k) (eqb-true j k) (eqb-false j k)
-  where
-    by : (b : Bool) → (b ≡ true → j ≡ k) → (b ≡ false → j ≡ k → ⊥) → P (if b then x else f j)
-    by true e n = here (e refl)
-    by false e n = there (n refl)
+at_either P f k j x here there =
+    elim (eqb_tells j k) [ inl is ↦ rw is.0 (here is.1) | inr other ↦ rw other.0 (there other.1) ]
 
 -- the value at the place that was given another
 pub at_same : {X : Type 0} (f : ℕ → X) (k j : ℕ) (x : X) → j ≡ k → with_value_at f k x j ≡ x

@@ -1,5 +1,5 @@
 -- What each seat has still to intern, and that it is one newborn less after its next call.
-use Rattle.std.proofs.Common.{◌≡◌, ◌⊎◌, ℕ, ◌<◌, true, false, List, [], ◌∷◌, length, Contains, refl, sym, subst, ap, ◌∙◌, inl, inr, ⊎_elim}
+use Rattle.std.proofs.Common.{◌≡◌, ◌⊎◌, ℕ, ◌<◌, true, false, List, [], ◌∷◌, length, Contains, refl, sym, subst, ◌∙◌, inl, inr}
 use Rattle.std.specs.Prelude.{IsSome, slice_index_or}
 use Rattle.instruction_set.specs.declared.letter.Letter.{Letter}
 use Rattle.world_config.specs.Values.{ConfigValues}
@@ -30,21 +30,18 @@ module _ (rest : ℕ → List Pair) (i : ℕ) (p : Pair) (ps : List Pair) (is : 
   -- what is left was left before
   in_old : (j : ℕ) (q : Pair) → Contains (with_value_at rest i ps j) q → Contains (rest j) q
   in_old j q = at_either (λ (l : List Pair). Contains l q → Contains (rest j) q) rest i j ps
-      (λ e m. subst (λ (l : List Pair). Contains l q) (sym (ap rest e ∙ is))
-      (Contains-cons p ps q m))
-      (λ n m. m)
+      (λ e m. rw (e, is) (Contains-cons p ps q m)) (λ n m. m)
 
   -- the first was left
   pub head_in : Contains (rest i) p
-  head_in = subst (λ (l : List Pair). Contains l p) (sym is) (Contains-here p ps p refl)
+  head_in = rw is (Contains-here p ps p refl)
 
   -- what was left is the first or is left
   in_new : (j : ℕ) (q : Pair) → Contains (rest j) q
       → (p ≡ q) ⊎ Contains (with_value_at rest i ps j) q
   in_new j q =
       at_either (λ (l : List Pair). Contains (rest j) q → (p ≡ q) ⊎ Contains l q) rest i j ps
-      (λ e m. Contains-cons_cases p ps q (subst (λ (l : List Pair). Contains l q) (ap rest e ∙ is) m))
-      (λ n m. inr m)
+      (λ e m. Contains-cons_cases p ps q (rw (e, is) at m)) (λ n m. inr m)
 
   -- the first isn't left
   not_head : Apart (rest i) → ((j : ℕ) (q : Pair) → (i ≡ j → ⊥) → Contains (rest i) q
@@ -79,12 +76,12 @@ module _ (config : ConfigValues) where
     disjoint =
         λ a b q n l m. h.disjoint a b q n (in_old rest i p ps is a q l)
         (in_old rest i p ps is b q m);
-    whole = λ c k l n. ⊎_elim
-        (λ (e : s.interned c k ≡ true). inl (marked_kept s.interned p c k e))
-        (λ (r : (j : ℕ) × Contains (rest j) (c, k)). ⊎_elim
-        (λ (e : p ≡ (c, k)). inl (subst (λ (q : Pair). marked s.interned p q.0 q.1 ≡ true) e
-        (marked_same s.interned p)))
-        (λ (m : Contains (with_value_at rest i ps r.0) (c, k)). inr (r.0, m))
-        (in_new rest i p ps is r.0 (c, k) r.1))
-        (h.whole c k l n);
+    whole = λ c k l n. elim (h.whole c k l n) [
+      | inl e ↦ inl (marked_kept s.interned p c k e)
+      | inr r ↦ elim (in_new rest i p ps is r.0 (c, k) r.1) [
+        | inl e ↦ inl (subst (λ (q : Pair). marked s.interned p q.0 q.1 ≡ true) e
+            (marked_same s.interned p))
+        | inr m ↦ inr (r.0, m)
+      ]
+    ];
   }

@@ -1,5 +1,5 @@
 -- Members of lists that are made of others.
-use Rattle.std.proofs.Common.{◌≡◌, ◌++◌, Some, ◌⊎◌, ℕ, zero, suc, ◌<◌, List, [], ◌∷◌, length, map, Contains, refl, sym, subst, ap, ◌∙◌, inl, inr, ⊎_elim, arith, length-append}
+use Rattle.std.proofs.Common.{◌≡◌, ◌++◌, Some, ◌⊎◌, ℕ, zero, suc, ◌<◌, List, [], ◌∷◌, length, map, Contains, refl, sym, ap, ◌∙◌, inl, inr, arith, length-append}
 use Rattle.std.specs.Prelude.{◌-◌, slice_get}
 use Rattle.std.specs.List.{flat_map, range_with_len}
 use Rattle.std.proofs.lemmas.List.Elements.{Contains-append_left, Contains-append_right, Contains-append_cases}
@@ -13,22 +13,19 @@ module _ {X A : Type 0} (f : X → List A) where
   pub Contains-flat_map : (xs : List X) (x : X) (a : A) → Contains xs x → Contains (f x) a
       → Contains (flat_map f xs) a
   Contains-flat_map [] x a h k = absurd (Contains-nil x h)
-  Contains-flat_map (y ∷ xs) x a h k = ⊎_elim
-      (λ (e : y ≡ x). Contains-append_left (f y) (flat_map f xs) a
-      (subst (λ z. Contains (f z) a) (sym e) k))
-      (λ (r : Contains xs x). Contains-append_right (f y) (flat_map f xs) a
-      (Contains-flat_map xs x a r k))
-      (Contains-cons_cases y xs x h)
+  Contains-flat_map (y ∷ xs) x a h k = elim (Contains-cons_cases y xs x h) [
+    | inl e ↦ Contains-append_left (f y) (flat_map f xs) a (rw e k)
+    | inr r ↦ Contains-append_right (f y) (flat_map f xs) a (Contains-flat_map xs x a r k)
+  ]
 
   -- each such member is of what some item gives
   pub Contains-flat_map_cases : (xs : List X) (a : A) → Contains (flat_map f xs) a → (x : X)
       × Contains xs x × Contains (f x) a
   Contains-flat_map_cases [] a h = absurd (Contains-nil a h)
-  Contains-flat_map_cases (y ∷ xs) a h = ⊎_elim
-      (λ (e : Contains (f y) a). (y, Contains-here y xs y refl, e))
-      (λ (r : Contains (flat_map f xs) a). let t =
-      Contains-flat_map_cases xs a r in (t.0, Contains-cons y xs t.0 t.1, t.2))
-      (Contains-append_cases (f y) (flat_map f xs) a h)
+  Contains-flat_map_cases (y ∷ xs) a h = elim (Contains-append_cases (f y) (flat_map f xs) a h) [
+    | inl e ↦ (y, Contains-here y xs y refl, e)
+    | inr r ↦ let t = Contains-flat_map_cases xs a r in (t.0, Contains-cons y xs t.0 t.1, t.2)
+  ]
 
 -- the members of a list made from a function of the index
 module _ {X : Type 0} (f : ℕ → X) (n : ℕ) where

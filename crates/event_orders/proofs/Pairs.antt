@@ -1,8 +1,9 @@
 -- Lists of pairs of a cell and the number of a newborn, of which each stands once.
-use Rattle.std.proofs.Common.{◌≡◌, ◌⊎◌, ℕ, zero, suc, ◌+◌, ◌<◌, ◌≤◌, Bool, true, false, List, [], ◌∷◌, ◌++◌, map, Contains, refl, sym, subst, ap, ◌∙◌, inl, inr, ⊎_elim, arith}
+use Rattle.std.proofs.Common.{◌≡◌, ◌⊎◌, ℕ, zero, suc, ◌+◌, ◌<◌, ◌≤◌, List, [], ◌∷◌, ◌++◌, map, Contains, refl, inl, inr, arith}
 use Rattle.std.specs.Prelude.{if◌then◌else◌, ◌==◌}
 use Rattle.std.specs.List.{flat_map, range_with_len}
-use Rattle.std.proofs.lemmas.Bool.{cases_lt, eqb-true, eq-eqb}
+use Rattle.std.proofs.lemmas.Bool.{cases_lt, cases_Bool, eq-eqb}
+use Rattle.std.proofs.lemmas.Bool.Decides.{eqb_tells}
 use Rattle.std.proofs.lemmas.List.Elements.{Contains-append_left, Contains-append_right, Contains-append_cases}
 use Rattle.event_orders.proofs.Members.{Contains-nil, Contains-cons, Contains-cons_cases, Contains-here, Contains-from_fn}
 
@@ -20,9 +21,8 @@ apart_append : (ps qs : List Pair) → Apart ps → Apart qs
     → ((p : Pair) → Contains ps p → Contains qs p → ⊥) → Apart (ps ++ qs)
 apart_append [] qs first rest common = rest
 apart_append (p ∷ ps) qs first rest common = (
-  (λ h. ⊎_elim (λ (l : Contains ps p). first.0 l)
-      (λ (r : Contains qs p). common p (Contains-here p ps p refl) r)
-      (Contains-append_cases ps qs p h)),
+  (λ h. elim (Contains-append_cases ps qs p h)
+      [ inl l ↦ first.0 l | inr r ↦ common p (Contains-here p ps p refl) r ]),
   apart_append ps qs first.1 rest (λ q l r. common q (Contains-cons p ps q l) r),
 )
 
@@ -41,9 +41,7 @@ in_from_nth : (c first n : ℕ) (p : Pair) → Contains (from_nth c first n) p �
 in_from_nth c first zero p h = absurd (Contains-nil p h)
 in_from_nth c first (suc n) p h =
     elim (Contains-cons_cases (c, first) (from_nth c (first + 1) n) p h) [
-      | inl e ↦
-          let nth : first ≡ p.1 = ap (λ (q : Pair). q.1) e in
-          (sym (ap (λ (q : Pair). q.0) e), (omega arith), (omega arith))
+      | inl e ↦ rw (← e) (refl, (omega arith), (omega arith))
       | inr r ↦
           let rest = in_from_nth c (first + 1) n p r in
           (rest.0, (omega (arith, rest.1)), (omega (arith, rest.2)))
@@ -53,8 +51,7 @@ in_from_nth c first (suc n) p h =
 from_nth_apart : (c first n : ℕ) → Apart (from_nth c first n)
 from_nth_apart c first zero = tt
 from_nth_apart c first (suc n) = (
-  (λ h. let in_rest = in_from_nth c (first + 1) n (c, first) h in let low : first + 1 ≤ first =
-      in_rest.1 in absurd (omega (arith, low))),
+  (λ h. absurd (omega (arith, (in_from_nth c (first + 1) n (c, first) h).1))),
   from_nth_apart c (first + 1) n,
 )
 
@@ -71,15 +68,12 @@ module _ (seat_of : ℕ → ℕ) (many : ℕ → ℕ) (seat : ℕ) where
   -- a pair of a cell is of that cell, which is the seat's
   in_pairs_at : (c : ℕ) (p : Pair) → Contains (pairs_at c) p → (p.0 ≡ c) × (p.1 < many c)
       × (seat_of c ≡ seat)
-  in_pairs_at c p = by (seat_of c == seat) (eqb-true (seat_of c) seat)
-    where
-      by : (b : Bool) → (b ≡ true → seat_of c ≡ seat)
-          → Contains (if b then from_nth c 0 (many c) else []) p → (p.0 ≡ c) × (p.1 < many c)
-          × (seat_of c ≡ seat)
-      by true e h =
-          let in_cell = in_from_nth c 0 (many c) p h in
-          (in_cell.0, (omega (arith, in_cell.2)), e refl)
-      by false e h = absurd (Contains-nil p h)
+  in_pairs_at c p h = elim (eqb_tells (seat_of c) seat) [
+    | inl is ↦
+        let in_cell = in_from_nth c 0 (many c) p (rw is.0 at h) in
+        (in_cell.0, (omega (arith, in_cell.2)), is.1)
+    | inr other ↦ absurd (Contains-nil p (rw other.0 at h))
+  ]
 
   -- each newborn of a cell of the seat is there
   pairs_at_has : (c k : ℕ) → seat_of c ≡ seat → k < many c → Contains (pairs_at c) (c, k)
@@ -88,11 +82,8 @@ module _ (seat_of : ℕ → ℕ) (many : ℕ → ℕ) (seat : ℕ) where
 
   -- each stands once
   pairs_at_apart : (c : ℕ) → Apart (pairs_at c)
-  pairs_at_apart c = by (seat_of c == seat)
-    where
-      by : (b : Bool) → Apart (if b then from_nth c 0 (many c) else [])
-      by true = from_nth_apart c 0 (many c)
-      by false = tt
+  pairs_at_apart c = elim (cases_Bool (seat_of c == seat))
+      [ inl is ↦ rw is (from_nth_apart c 0 (many c)) | inr other ↦ rw other tt ]
 
   -- a pair of these is of one of the cells, which is the seat's
   pub in_pairs : (first n : ℕ) (p : Pair) → Contains (pairs_from first n) p → (first ≤ p.0)
@@ -102,9 +93,7 @@ module _ (seat_of : ℕ → ℕ) (many : ℕ → ℕ) (seat : ℕ) where
       elim (Contains-append_cases (pairs_at first) (pairs_from (first + 1) n) p h) [
         | inl l ↦
             let here = in_pairs_at first p l in
-            let is : p.0 ≡ first = here.0 in
-            let low : p.1 < many p.0 = rw is here.1 in
-            ((omega (arith, is)), (omega (arith, is)), low, ap seat_of is ∙ here.2)
+            ((omega (arith, here.0)), (omega (arith, here.0)), rw here.0 here.1, rw here.0 here.2)
         | inr r ↦
             let rest = in_pairs (first + 1) n p r in
             ((omega (arith, rest.0)), (omega (arith, rest.1)), rest.2, rest.3)
@@ -118,7 +107,7 @@ module _ (seat_of : ℕ → ℕ) (many : ℕ → ℕ) (seat : ℕ) where
     | inl above ↦ Contains-append_right (pairs_at first) (pairs_from (first + 1) n) (c, k)
         (pairs_have (first + 1) n c k above (omega (arith, high)) is within)
     | inr same ↦ Contains-append_left (pairs_at first) (pairs_from (first + 1) n) (c, k)
-        (subst (λ f. Contains (pairs_at f) (c, k)) (sym same) (pairs_at_has c k is within))
+        (rw same (pairs_at_has c k is within))
   ]
 
   -- each stands once
@@ -127,5 +116,4 @@ module _ (seat_of : ℕ → ℕ) (many : ℕ → ℕ) (seat : ℕ) where
   pairs_apart first (suc n) =
       apart_append (pairs_at first) (pairs_from (first + 1) n) (pairs_at_apart first)
       (pairs_apart (first + 1) n)
-      (λ p l r. let here = (in_pairs_at first p l).0 in let there =
-      (in_pairs (first + 1) n p r).0 in absurd (omega (arith, here, there)))
+      (λ p l r. absurd (omega (arith, (in_pairs_at first p l).0, (in_pairs (first + 1) n p r).0)))
