@@ -1,5 +1,5 @@
 -- All cells live as an update starts, and nothing else happens.
-use Rattle.std.proofs.Common.{◌≡◌, ℕ, zero, suc, ◌+◌, ◌<◌, ◌≤◌, false, length, Some, refl, sym, subst, ap, ◌∙◌, arith, add-zero}
+use Rattle.std.proofs.Common.{◌≡◌, ℕ, zero, suc, ◌+◌, ◌<◌, ◌≤◌, false, length, Some, refl, sym, ap, arith, add-zero}
 use Rattle.std.specs.Prelude.{IsSome, IsNone}
 use Rattle.world_config.specs.Values.{ConfigValues}
 use Rattle.world_rules.specs.World.{World}
@@ -36,12 +36,7 @@ module _ (config : ConfigValues) where
   -- all cells from a on live
   pub all_live : (d a : ℕ) (s t : State) → Lived a s t → a + d ≡ length t.world.cells → (u : State)
       × Goes config Any t 0 u × Lived (length s.world.cells) s u
-  all_live zero a s t h e = (
-    t,
-    goes_none config Any t,
-    subst (λ (n : ℕ). Lived n s t)
-        (sym (add-zero a) ∙ e ∙ ap (λ (w : World). length w.cells) h.world) h,
-  )
+  all_live zero a s t h e = (t, goes_none config Any t, rw (ap (λ (w : World). length w.cells) (sym h.world), ← e, add-zero) h)
   all_live (suc d) a s t h e =
       let within : a < length t.world.cells = omega arith in
       let t1 = state_after_event config t (Run a) in

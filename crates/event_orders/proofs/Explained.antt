@@ -1,5 +1,5 @@
 -- Lawful events have the calls that the seats have still to make, in any order of the seats.
-use Rattle.std.proofs.Common.{◌≡◌, ◌≢◌, ℕ, true, List, [], ◌∷◌, ◌++◌, map, Contains, refl, sym, subst, ap, ◌∙◌, ⊎_elim, append_assoc, append-nil}
+use Rattle.std.proofs.Common.{◌≡◌, ◌≢◌, ℕ, List, [], ◌∷◌, ◌++◌, map, refl, sym, ◌∙◌, append_assoc, append-nil, inl, inr}
 use Rattle.std.specs.Prelude.{◌==◌, filter}
 use Rattle.std.proofs.lemmas.Bool.{eq-eqb, ne_eqb}
 use Rattle.genotype_bank.specs.declared.view.Entry.{Entry}
@@ -47,12 +47,11 @@ module _ (config : ConfigValues) where
     sym (append-nil s.history),
     record {
       every_cell = h.ran;
-      every_newborn = λ c k l n. ⊎_elim
-          (λ (e : s.interned c k ≡ true). e)
-          (λ (r : (j : ℕ) × Contains (rest j) (c, k)). absurd
-          (Contains-nil (c, k) (subst (λ (l : List Pair). Contains l (c, k))
-          (nil_from_map (λ p. genome_entry r.0 (newborn s p)) (rest r.0) (own_is r.0)) r.1)))
-          (h.whole c k l n);
+      every_newborn = λ c k l n. elim (h.whole c k l n) [
+        | inl e ↦ e
+        | inr r ↦ absurd (Contains-nil (c, k)
+            (rw (nil_from_map (λ p. genome_entry r.0 (newborn s p)) (rest r.0) (own_is r.0)) at r.1))
+      ];
     },
   )
   explained (x ∷ calls) s rest h own_is =
@@ -68,25 +67,17 @@ module _ (config : ConfigValues) where
           → ((u : State) (left : ℕ → List Pair) → Left u left
           → ((j : ℕ) → own j calls ≡ due u left j) → Explained u calls)
           → Explained s (x ∷ calls)
-      by [] is e again =
-          absurd (nil_is (ap (map (λ p. genome_entry x.seat (newborn s p))) (sym is) ∙ sym e))
-        where
-          nil_is : [] ≡ x ∷ own x.seat calls → ⊥
-          nil_is e = cc
+      by [] is e again = let none = rw is at e in absurd cc
       by (p ∷ ps) is e again =
           let s1 = state_after_event config s (Intern x.seat p.0 p.1) in
           let v = h.valid x.seat p (head_in rest x.seat p ps is) in
-          let both : x ∷ own x.seat calls ≡ genome_entry x.seat (newborn s p) ∷ map
-          (λ p. genome_entry x.seat (newborn s p)) ps = e
-          ∙ ap (map (λ p. genome_entry x.seat (newborn s p))) is in
+          let both = rw is at e in
           let first : x ≡ genome_entry x.seat (newborn s p) = cc in
           let others : own x.seat calls ≡ map (λ p. genome_entry x.seat (newborn s p)) ps = cc in
           let go = again s1 (with_value_at rest x.seat ps)
           (left_next config s rest x.seat p ps is h)
           (λ j. at_either (λ l. own j calls ≡ map (λ p. genome_entry j (newborn s p)) l) rest x.seat j
-          ps (λ f. subst (λ j. own j calls ≡ map (λ p. genome_entry j (newborn s p)) ps) (sym f)
-          others)
-          (λ n. sym (elsewhere j n) ∙ own_is j)) in (
+          ps (λ f. rw f others) (λ n. sym (elsewhere j n) ∙ own_is j)) in (
             go.0,
             goes_on config Any s s1 go.0 0 0 (goes_one config Any s (Intern x.seat p.0 p.1)
                 (record { has_result = v.0; is_newborn = v.1; is_new = v.2 }) tt) go.1,

@@ -1,14 +1,14 @@
 -- Whatever the order in which seats intern the newborns of their own cells, a schedule has it.
-use Rattle.std.proofs.Common.{◌≡◌, ℕ, zero, suc, ◌+◌, ◌<◌, ◌≤◌, Bool, true, false, List, [], ◌++◌, length, map, take, refl, sym, subst, ap, ◌∙◌, inr, arith, zero-add}
-use Rattle.std.specs.Prelude.{if◌then◌else◌, ◌==◌}
+use Rattle.std.proofs.Common.{◌≡◌, ℕ, zero, suc, ◌+◌, ◌<◌, ◌≤◌, List, [], ◌++◌, length, map, take, refl, sym, subst, ap, ◌∙◌, inl, inr, arith, zero-add}
+use Rattle.std.specs.Prelude.{◌==◌}
 use Rattle.std.specs.List.{flat_map, range_with_len}
+use Rattle.std.proofs.lemmas.Bool.{cases_Bool}
 use Rattle.std.proofs.lemmas.Grind.{fold-append}
 use Rattle.std.proofs.lemmas.List.{map-append}
 use Rattle.std.proofs.lemmas.List.FromFn.{fill_by_all}
 use mathlib.Core.List.{map-map}
 use Rattle.genotype_bank.specs.declared.view.Entry.{Entry}
 use Rattle.world_config.specs.Values.{ConfigValues}
-use Rattle.world_rules.specs.World.{World}
 use Rattle.event_orders.specs.declared.schedule.ScheduleEvent.{ScheduleEvent}
 use Rattle.event_orders.specs.State.{State, genome_entry, life_in, newborn_genomes, result_of, opening}
 use Rattle.event_orders.specs.Schedule.{MayGather, state_after_event, state_after, IsSchedule}
@@ -37,12 +37,11 @@ module _ (config : ConfigValues) where
     result_is : (c : ℕ) → c < length s.world.cells
         → newborn_genomes (result_of u c) ≡ newborn_genomes (life_in config s.world c)
     result_is c l =
-        ap newborn_genomes ((lived.lives c (lived.ran c l)).1
-        ∙ ap (λ w. life_in config w c) lived.world)
+        rw ((lived.lives c (lived.ran c l)).1, lived.world) refl
 
     left_first : Left u all_due
     left_first = record {
-      ran = λ c l. lived.ran c (subst (λ (w : World). c < length w.cells) lived.world l);
+      ran = λ c l. lived.ran c (rw lived.world at l);
       valid = λ j p m.
           let in_them = in_pairs seat_of many j 0 (length s.world.cells) p m in
           (lived.ran p.0 (omega (arith, in_them.1)), in_them.2, lived.none p.0 p.1);
@@ -51,8 +50,7 @@ module _ (config : ConfigValues) where
           λ i j p n l m. n (sym (in_pairs seat_of many i 0 (length s.world.cells) p l).3
           ∙ (in_pairs seat_of many j 0 (length s.world.cells) p m).3);
       whole = λ c k l n.
-          let within : c < length s.world.cells = subst
-          (λ (w : World). c < length w.cells) lived.world l in
+          let within = rw lived.world at l in
           inr (
             seat_of c,
             pairs_have seat_of many (seat_of c) 0 (length s.world.cells) c k
@@ -69,15 +67,11 @@ module _ (config : ConfigValues) where
 
     due_at : (j c : ℕ) → c < length s.world.cells
         → map (newborn u) (pairs_at seat_of many j c) ≡ newborns_for config s.world seat_of j c
-    due_at j c l = by (seat_of c == j)
-      where
-        by : (b : Bool) → map (newborn u) (if b then map (λ k. (c, k))
-            (range_with_len 0 (many c)) else []) ≡ (if b then newborn_genomes
-            (life_in config s.world c) else [])
-        by true =
-            map-map (newborn u) (λ k. (c, k)) (range_with_len 0 (many c))
-            ∙ (genomes_at c ∙ result_is c l)
-        by false = refl
+    due_at j c l = elim (cases_Bool (seat_of c == j)) [
+      | inl is ↦ rw is
+          (map-map (newborn u) (λ k. (c, k)) (range_with_len 0 (many c)) ∙ genomes_at c ∙ result_is c l)
+      | inr other ↦ rw other refl
+    ]
 
     due_from : (j first n : ℕ) → first + n ≤ length s.world.cells
         → map (newborn u) (pairs_from seat_of many j first n) ≡ flat_map
@@ -93,9 +87,8 @@ module _ (config : ConfigValues) where
     due_is : (calls : List Entry) → IsInterleaving config s.world seat_of calls → (j : ℕ)
         → own j calls ≡ due u all_due j
     due_is calls is j =
-        is j
-        ∙ (ap (map (genome_entry j)) (sym (due_from j 0 (length s.world.cells) (omega arith)))
-        ∙ map-map (genome_entry j) (newborn u) (all_due j))
+        rw (is j, ← due_from j 0 (length s.world.cells) (omega arith))
+        (map-map (genome_entry j) (newborn u) (all_due j))
 
   -- at the start of an update lawful events have these calls
   calls_explained : (s : State) (seat_of : ℕ → ℕ) (calls : List Entry)
@@ -117,8 +110,7 @@ module _ (config : ConfigValues) where
       (left_first s seat_of all.0 all.2) (due_is s seat_of all.0 all.2 calls is) in (
         rest.0,
         goes_on config Any s all.0 rest.0 0 0 all.1 rest.1,
-        subst
-            (λ (h : List Entry). rest.0.history ≡ h ++ calls) all.2.history rest.2,
+        rw all.2.history at rest.2,
         rest.3,
       )
 
@@ -131,9 +123,7 @@ module _ (config : ConfigValues) where
   goes_on_with events whole lawful seat_of calls starts is =
       let s = state_after config events in
       let are : AreLives config s.world s.results =
-      subst (λ (front : List ScheduleEvent). AreLives config (state_after config front).world
-      (state_after config front).results) whole
-      (holds_after config events lawful (length events) (omega arith)).results in
+      rw whole at (holds_after config events lawful (length events) (omega arith)).results in
       let found = calls_explained s seat_of calls are starts is in
       let more = found.1.0 in
       let before = all_lawful config Any (opening config) events (λ n e at. (lawful n e at, tt)) in
