@@ -1,5 +1,5 @@
 -- The bank between two ends of updates.
-use Rattle.std.proofs.Common.{◌≡◌, ◌⊎◌, ℕ, ◌+◌, ◌<◌, Bool, true, List, [], ◌∷◌, ◌++◌, length, map, Contains, refl, subst, ap, ◌∙◌, inl, inr, ⊎_elim}
+use Rattle.std.proofs.Common.{◌≡◌, ◌⊎◌, ℕ, ◌+◌, ◌<◌, Bool, true, List, [], ◌∷◌, ◌++◌, length, map, Contains, refl, ap, ◌∙◌, inl, inr}
 use Rattle.std.specs.Prelude.{◌↔◌, slice_index_or}
 use Rattle.std.proofs.lemmas.List.Elements.{Contains-append_left, Contains-append_right, Contains-append_cases, Contains-push_cases, Contains-push, filter_map-append}
 use Rattle.genotype_bank.specs.declared.view.Entry.{Entry}
@@ -7,7 +7,6 @@ use Rattle.genotype_bank.specs.BankHistory.{genomes_of, interned_genome}
 use Rattle.instruction_set.specs.declared.letter.Letter.{Letter}
 use Rattle.world_config.specs.Values.{ConfigValues}
 use Rattle.world_rules.specs.World.{World}
-use Rattle.world_rules.specs.Lives.{CellLife}
 use Rattle.world_rules.specs.Update.{scene_of_lives, world_of}
 use Rattle.event_orders.specs.declared.schedule.ScheduleEvent.TheVariants.{Intern}
 use Rattle.event_orders.specs.State.{State, genome_entry, life_in, newborn_genomes, result_of, results_of, injections_at}
@@ -75,11 +74,11 @@ module _ (config : ConfigValues) where
         old = λ g k. rw more (Contains-append_left (genomes_of s.history) (g0 ∷ []) g (h.old g k));
         young = λ c k e. rw more (young_kept (genomes_of s.history)
             (λ c. newborn_genomes (life_in config w c)) s.interned cell nth h.young c k e);
-        only = λ g k. ⊎_elim
-            (λ (l : Contains (genomes_of s.history) g). h.only g l)
-            (λ (e : g0 ≡ g). inr (subst (Contains (born_in config w)) e
-            (newborn_is_birth config w cell nth is.0 (rw is.1 at may.is_newborn))))
-            (Contains-push_cases (genomes_of s.history) g0 g (rw more at k));
+        only = λ g k. elim (Contains-push_cases (genomes_of s.history) g0 g (rw more at k)) [
+          | inl l ↦ h.only g l
+          | inr e ↦ inr
+              (rw e at (newborn_is_birth config w cell nth is.0 (rw is.1 at may.is_newborn)))
+        ];
       }
 
   -- the list of all, at the end of an update over these results
@@ -89,12 +88,11 @@ module _ (config : ConfigValues) where
       (s.world.update + 1))
   ever_gathered s may are =
       let w = s.world in
-      ap (λ (lives : List CellLife). genomes_ever
-      (world_of (scene_of_lives config w lives)).everyone)
-      (results_are_lives config s are may.every_cell)
-      ∙ genomes_next config w (lives_in config w)
-      ∙ ap (λ births. genomes_ever w.everyone ++ (births ++ injections_at config (w.update + 1)))
-      (births_are config (w.update + 1) w.cells)
+      rw (
+        results_are_lives config s are may.every_cell,
+        genomes_next config w (lives_in config w),
+        births_are config (w.update + 1) w.cells,
+      ) refl
 
   -- at the end of an update the bank has exactly those that were ever in the world
   pub gather_members : (s : State) (seat : ℕ) → MayGather s → AreLives config s.world s.results

@@ -1,5 +1,5 @@
 -- What holds between the events of a schedule.
-use Rattle.std.proofs.Common.{◌≡◌, ℕ, zero, suc, ◌+◌, ◌<◌, ◌≤◌, true≢false, cond, List, [], ◌∷◌, ◌++◌, length, get_or, take, Some, Contains, refl, sym, subst, ap, ◌∙◌, inl, arith, add-one, add-zero, zero-add}
+use Rattle.std.proofs.Common.{◌≡◌, ℕ, zero, suc, ◌+◌, ◌<◌, ◌≤◌, true≢false, cond, List, [], ◌∷◌, ◌++◌, length, get_or, take, Some, Contains, refl, sym, ap, ◌∙◌, inl, arith, add-one, add-zero, zero-add}
 use Rattle.std.specs.Prelude.{◌↔◌, slice_get, count_by}
 use Rattle.std.proofs.lemmas.List.{take_more}
 use Rattle.std.proofs.lemmas.List.Sums.{fold_push, sum_by-append}
@@ -49,9 +49,9 @@ module _ (config : ConfigValues) where
         world = refl;
         results = λ cell h. absurd (true≢false (sym h));
         bank = record {
-          old = λ g h. subst (λ l. Contains l g) founder h;
+          old = λ g h. rw founder at h;
           young = λ cell nth h. absurd (true≢false (sym h));
-          only = λ g h. inl (subst (λ l. Contains l g) (sym founder) h);
+          only = λ g h. inl (rw founder h);
         };
         pictures = first_shown config;
       }
@@ -204,10 +204,7 @@ module _ (config : ConfigValues) (events : List ScheduleEvent) where
       (lawful n (Gather seat) at) before.results before.bank g) in
       record {
         members =
-            λ g. (
-              (λ h. (members g).0 ((all.members g).0 h)),
-              (λ h. (all.members g).1 ((members g).1 h)),
-            );
+            λ g. (λ h. (members g).0 ((all.members g).0 h), λ h. (all.members g).1 ((members g).1 h));
         once = all.once;
       }
 

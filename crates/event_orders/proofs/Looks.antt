@@ -37,17 +37,13 @@ module _ (config : ConfigValues) (events : List ScheduleEvent) where
   seen_later : (m d o : ℕ) → m + d ≤ length events → seen_at m o ≤ seen_at (m + d) o
   seen_later m zero o l = rw add-zero (omega arith)
   seen_later m (suc d) o l =
-      let within : m + d < length events = omega arith in
       let e = get_or events (m + d) Publish in
       let more = seen_kept (at_place config events (m + d)) e o in
-      let same : seen_at (m + d + 1) o
-      ≡ (state_after_event config (at_place config events (m + d)) e).seen o =
-      ap (λ (t : State). t.seen o) (state_with config events (m + d) e
-      (slice_get-get_or events (m + d) Publish within)) in
-      let place : m + d + 1 ≡ m + suc d = omega arith in
-      let moved : seen_at (m + d + 1) o ≡ seen_at (m + suc d) o = ap (λ k. seen_at k o) place in
       let rest = seen_later m d o (omega arith) in
-      omega arith
+      let place : m + suc d ≡ m + d + 1 = omega arith in
+      let same =
+      state_with config events (m + d) e (slice_get-get_or events (m + d) Publish (omega arith)) in
+      rw place (omega (arith, rest, more, ap (λ (t : State). t.seen o) same))
 
   -- no observer looks at a lower number than before
   pub looks_never_fall : IsSchedule config events → LooksNeverFall events
@@ -60,7 +56,6 @@ module _ (config : ConfigValues) (events : List ScheduleEvent) where
       ∙ at_same s.seen observer observer (max (s.seen observer) i) refl in
       let rest = seen_later (m + 1) (n - (m + 1)) observer (omega arith) in
       let place : m + 1 + (n - (m + 1)) ≡ n = omega arith in
-      let moved : seen_at (m + 1 + (n - (m + 1))) observer ≡ seen_at n observer =
-      ap (λ k. seen_at k observer) place in
+      let moved = rw place at rest in
       let bound : seen_at n observer ≤ j = may.is_not_older in
       omega arith

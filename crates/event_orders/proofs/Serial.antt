@@ -1,6 +1,6 @@
 -- Cells that live one after another are a schedule, for any number of updates and whichever seats
 -- intern their newborns.
-use Rattle.std.proofs.Common.{◌≡◌, ℕ, zero, suc, ◌+◌, ◌<◌, ◌≤◌, Bool, true, false, List, [], ◌∷◌, length, map, Contains, length-append, Option, Some, refl, sym, subst, ap, ◌∙◌, arith, add-one, add-zero, zero-add}
+use Rattle.std.proofs.Common.{◌≡◌, ℕ, zero, suc, ◌+◌, ◌<◌, ◌≤◌, Bool, true, false, List, [], ◌∷◌, length, map, length-append, Option, Some, refl, sym, subst, ap, ◌∙◌, arith, add-one, add-zero, zero-add}
 use Rattle.std.specs.Prelude.{IsSome, IsNone, max, unwrap_or}
 use Rattle.std.proofs.lemmas.List.{map-append}
 use Rattle.std.proofs.lemmas.List.Elements.{Contains-push}
@@ -103,8 +103,7 @@ module _ (config : ConfigValues) (seat_of : ℕ → ℕ) where
   interns zero a m s h e = (
     s,
     goes_none config (IsOfSeat seat_of) s,
-    subst (λ (n : ℕ). Doing a n s)
-        (sym (add-zero m) ∙ e) h,
+    rw (← e, add-zero) h,
     record { world = refl; pictures = refl; seen = refl },
   )
   interns (suc d) a m s h e =
@@ -142,8 +141,7 @@ module _ (config : ConfigValues) (seat_of : ℕ → ℕ) where
   lives zero a s h e = (
     s,
     goes_none config (IsOfSeat seat_of) s,
-    subst (λ (n : ℕ). Done n s)
-        (sym (add-zero a) ∙ e) h,
+    rw (← e, add-zero) h,
     record { world = refl; pictures = refl; seen = refl },
   )
   lives (suc d) a s h e =
@@ -227,13 +225,12 @@ module _ (config : ConfigValues) (seat_of : ℕ → ℕ) where
     may_look : MayLook published 0 (n + 1)
     may_look = record {
       is_published =
-          subst (Contains (map (λ (p : PictureValue). p.update) published.pictures))
-          (picture_update config ended.world.update ∙ ended_update)
-          (subst (λ l. Contains l (picture_of config ended.world.update).update)
-          (sym (map-append (λ (p : PictureValue). p.update) s.pictures
-          (picture_of config ended.world.update ∷ [])))
-          (Contains-push (map (λ (p : PictureValue). p.update) s.pictures)
-          (picture_of config ended.world.update).update));
+          rw (
+            map-append (λ (p : PictureValue). p.update) s.pictures
+                (picture_of config ended.world.update ∷ []),
+            picture_update config ended.world.update,
+            ended_update,
+          ) (Contains-push (map (λ (p : PictureValue). p.update) s.pictures) (n + 1));
       is_not_older = let seen = shown.seen in omega (arith, seen);
     }
 
@@ -293,11 +290,11 @@ module _ (config : ConfigValues) (seat_of : ℕ → ℕ) where
       let t = looked n cells.0 cells.2 shown in
       let ends = update_ends n cells.0 cells.2 shown in (
         t,
-        subst (λ (k : ℕ). Leads (opening config) k t) (add-one n)
+        rw (← add-one n)
             (goes_on config (IsOfSeat seat_of) (opening config) before.0 t n 1 before.1
             (goes_on config (IsOfSeat seat_of) before.0 cells.0 t 0 1 cells.1 ends)),
         done_none t (λ c. refl) (λ c k. refl),
-        subst (λ (k : ℕ). Shown k t) (add-one n) (shown_next n cells.0 cells.2 shown),
+        rw (← add-one n) (shown_next n cells.0 cells.2 shown),
       )
 
   -- so there is a schedule
