@@ -47,10 +47,8 @@ fails_test test from (suc count) cell others low high =
     let parts = fails_here (λ at. cell ≢ at) (test from) from
     (filter test (range_with_len (from + 1) count)) others in
     elim (cases_eq cell from) [
-      | inl same ↦ elim parts.0 [
-        | inl fails ↦ ap test same ∙ fails
-        | inr other ↦ absurd (other same)
-      ]
+      | inl same ↦ elim parts.0
+          [ inl fails ↦ ap test same ∙ fails | inr other ↦ absurd (other same) ]
       | inr other ↦
           let above : from + 1 ≤ cell = omega (arith, low, other) in
           fails_test test (from + 1) count cell parts.1 above (omega (arith, high))
@@ -71,7 +69,7 @@ module _ (Holds : OrganismState → Type 0) where
   each_with scene link organism holds each cell o h =
       let new : Occupant = record { id = link.id; organism = organism } in
       elim (stands_with scene.cells cell link.cell new o h) [
-        | inl here ↦ subst (λ (x : Occupant). Holds x.organism) here.1 holds
+        | inl here ↦ rw (← here.1) holds
         | inr there ↦ each cell o there.0
       ]
 

@@ -1,5 +1,5 @@
 -- Lists that were written at a place, or grew at their end, and folds over lists.
-use Rattle.std.proofs.Common.{◌≡◌, ◌≢◌, ℕ, zero, suc, ◌+◌, ◌<◌, true, List, [], ◌∷◌, ◌++◌, map, length, drop, Option, Some, None, refl, sym, ap, subst, arith, eq-eqb, ◌⊎◌, inl, inr, ◌∙◌}
+use Rattle.std.proofs.Common.{◌≡◌, ◌≢◌, ℕ, zero, suc, ◌+◌, ◌<◌, true, List, [], ◌∷◌, ◌++◌, map, length, drop, Option, Some, None, refl, sym, ap, arith, eq-eqb, ◌⊎◌, inl, inr, ◌∙◌}
 use Rattle.std.proofs.lemmas.Bool.{cases_eq}
 use Rattle.std.proofs.lemmas.List.{length-set, set-get_or}
 use Rattle.std.proofs.lemmas.Option.{slice_get_within}
@@ -19,15 +19,10 @@ pub get_emptied : {X : Type 0} (xs : List (Option X)) (i at : ℕ) (x : X)
     → (slice_get xs i ≡ Some (Some x)) × (i ≢ at)
 get_emptied xs i at x h = elim (cases_eq i at) [
   | inl same ↦
-      let here : slice_get (slice_set xs at None) at ≡ Some (Some x) =
-      subst (λ n. slice_get (slice_set xs at None) n ≡ Some (Some x)) same h in
-      let within : at < length xs =
-      omega (
-        arith,
-        slice_get_within (slice_set xs at None) at (Some x) here,
-        length-set xs at None,
-      ) in
-      let e = get_written xs at None within in absurd cc
+      let here = rw same at h in
+      let within = slice_get_within (slice_set xs at None) at (Some x) here in
+      let e = get_written xs at None (rw length-set at within) in
+      absurd cc
   | inr other ↦ (sym (get_other xs at i None other) ∙ h, other)
 ]
 

@@ -1,5 +1,5 @@
 -- What holds of a world within an update, and stays so as organisms leave it and come into it.
-use Rattle.std.proofs.Common.{◌≡◌, ◌≢◌, ℕ, ◌+◌, ◌<◌, ◌≤◌, List, [], ◌∷◌, ◌++◌, map, length, drop, Option, Some, None, refl, sym, ap, subst, ◌∙◌, arith, length-append, ◌⊎◌, inl, inr}
+use Rattle.std.proofs.Common.{◌≡◌, ◌≢◌, ℕ, ◌+◌, ◌<◌, ◌≤◌, List, [], ◌∷◌, ◌++◌, map, length, drop, Option, Some, None, refl, sym, ap, ◌∙◌, arith, length-append, ◌⊎◌, inl, inr}
 use Rattle.std.specs.Prelude.{slice_get, slice_set, slice_index_or}
 use Rattle.std.specs.Option.{option_to_list}
 use Rattle.std.proofs.lemmas.List.{drop-append-le, length-set, length-map, length-drop, map-append, append_assoc, append-nil}
@@ -68,18 +68,10 @@ pub stands_with : (cells : List (Option Occupant)) (cell at : ℕ) (new o : Occu
     ⊎ (Stands cells cell o × (cell ≢ at))
 stands_with cells cell at new o h = elim (cases_eq cell at) [
   | inl same ↦
-      let here : slice_get (slice_set cells at (Some new)) at ≡ Some (Some o) =
-      subst (λ n. slice_get (slice_set cells at (Some new)) n ≡ Some (Some o)) same h in
-      let within : at < length cells =
-      omega (
-        arith,
-        slice_get_within (slice_set cells at (Some new)) at (Some o) here,
-        length-set cells at (Some new),
-      ) in
-      let e : slice_get (slice_set cells at (Some new)) at ≡ Some (Some new) =
-      get_written cells at (Some new) within in
-      let is : new ≡ o = cc in
-      inl (same, is)
+      let here = rw same at h in
+      let within = slice_get_within (slice_set cells at (Some new)) at (Some o) here in
+      let e = get_written cells at (Some new) (rw length-set at within) in
+      inl (same, cc)
   | inr other ↦ inr (sym (get_other cells at cell (Some new) other) ∙ h, other)
 ]
 
@@ -93,12 +85,7 @@ known_new : (genomes : People) (cells : List (Option Occupant)) (at : ℕ) (new 
     → Known genomes cells → new.id ≡ length genomes
     → Known (genomes ++ Some new.organism.genome ∷ []) (slice_set cells at (Some new))
 known_new genomes cells at new known is cell o h = elim (stands_with cells cell at new o h) [
-  | inl here ↦
-      let seam : slice_get (genomes ++ Some new.organism.genome ∷ []) new.id
-      ≡ Some (Some new.organism.genome) =
-      rw is (get_seam genomes [] (Some new.organism.genome)) in
-      subst (λ (x : Occupant). slice_get (genomes ++ Some new.organism.genome ∷ []) x.id
-      ≡ Some (Some x.organism.genome)) here.1 seam
+  | inl here ↦ rw (← here.1, is) (get_seam genomes [] (Some new.organism.genome))
   | inr there ↦ get_more genomes (Some new.organism.genome ∷ []) o.id (Some o.organism.genome)
       (known cell o there.0)
 ]
@@ -138,21 +125,19 @@ pub people_grown : (start : People) (everyone : List Link) (link : Link)
     → people_in start (everyone ++ link ∷ []) ≡ people_in start everyone ++ Some link.genome ∷ []
 people_grown start everyone link h =
     let tail = drop (length start) everyone in
-    ap (λ (l : List Link). start ++ map written l)
-    (drop-append-le (length start) everyone (link ∷ []) h)
-    ∙ ap (λ (l : People). start ++ l) (map-append written tail (link ∷ []))
-    ∙ sym (append_assoc start (map written tail) (Some link.genome ∷ []))
+    rw (
+      drop-append-le (length start) everyone (link ∷ []) h,
+      map-append written tail (link ∷ []),
+      append_assoc start (map written tail) (Some link.genome ∷ []),
+    ) refl
 
 -- who has gone with one more
 pub gone_more : (gone : List ℕ) (slot : Option ℕ) (place id : ℕ)
     → slice_get (gone ++ option_to_list slot) place ≡ Some id → (slice_get gone place ≡ Some id)
     ⊎ (slot ≡ Some id)
-gone_more gone None place id h =
-    inl (subst (λ (l : List ℕ). slice_get l place ≡ Some id) (append-nil gone) h)
-gone_more gone (Some x) place id h = elim (get_last gone x place id h) [
-  | inl before ↦ inl before
-  | inr last ↦ inr (ap Some last)
-]
+gone_more gone None place id h = inl (rw (append-nil gone) at h)
+gone_more gone (Some x) place id h =
+    elim (get_last gone x place id h) [ inl before ↦ inl before | inr last ↦ inr (ap Some last) ]
 
 module _ (size : ℕ) (start : People) (scene : Scene) (is : IsScene size start scene) where
   -- ids in cells are below the next id
@@ -211,16 +196,12 @@ module _ (size : ℕ) (start : People) (scene : Scene) (is : IsScene size start 
       record {
         sized = length-set scene.cells link.cell (Some new) ∙ is.sized;
         grown = omega (arith, is.grown, grown);
-        known = rw (people_grown start scene.everyone link is.grown)
-            (subst (λ (g : List Letter). Known (people_in start scene.everyone ++ Some g ∷ [])
-            (slice_set scene.cells link.cell (Some new))) same
+        known = rw (people_grown start scene.everyone link is.grown, ← same)
             (known_new (people_in start scene.everyone) scene.cells link.cell new is.known
-            (is-next ∙ sym number)));
-        kept = rw (map-append written scene.everyone (link ∷ []))
-            (subst (λ (g : List Letter). Known (map written scene.everyone ++ Some g ∷ [])
-            (slice_set scene.cells link.cell (Some new))) same
+            (is-next ∙ sym number));
+        kept = rw (map-append written scene.everyone (link ∷ []), ← same)
             (known_new (map written scene.everyone) scene.cells link.cell new is.kept
-            (is-next ∙ sym (length-map scene.everyone written))));
+            (is-next ∙ sym (length-map scene.everyone written)));
         apart = λ cell other o x h k e. elim (stands_with scene.cells cell link.cell new o h) [
           | inl here ↦ elim (stands_with scene.cells other link.cell new x k) [
             | inl too ↦ here.0 ∙ sym too.0

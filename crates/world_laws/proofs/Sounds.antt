@@ -1,5 +1,5 @@
 -- Organisms stay sound as a world's update ends, and ids stay few and each of one organism.
-use Rattle.std.proofs.Common.{◌≡◌, ℕ, ◌+◌, ◌-◌, ◌*◌, ◌≤◌, List, [], ◌∷◌, ◌++◌, length, Option, Some, None, refl, sym, ap, subst, ◌∙◌, arith, length-append, inl, inr}
+use Rattle.std.proofs.Common.{◌≡◌, ℕ, ◌+◌, ◌-◌, ◌*◌, ◌≤◌, List, [], ◌∷◌, ◌++◌, length, Option, Some, None, refl, sym, ap, ◌∙◌, arith, length-append, inl, inr}
 use Rattle.std.specs.Prelude.{fold}
 use Rattle.std.specs.List.{AllByRecursion, zip}
 use Rattle.std.specs.Option.{option_to_list}
@@ -136,7 +136,7 @@ goes_newcomer scene link organism next sound =
     let grown = length-append scene.everyone (link ∷ []) in
     record {
       sound = λ s cell o h. elim (stands_with scene.cells cell link.cell new o h) [
-        | inl here ↦ subst (λ (x : Occupant). IsSoundOrganism x.organism) here.1 sound
+        | inl here ↦ rw (← here.1) sound
         | inr there ↦ s cell o there.0
       ];
       own = own_newcomer scene link organism next;
