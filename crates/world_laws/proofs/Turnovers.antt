@@ -1,5 +1,5 @@
 -- Who comes and who goes, from the lives of an update to its last event.
-use Rattle.std.proofs.Common.{◌≡◌, ◌≢◌, ◌⊎◌, inl, inr, ⊎_elim, ◌∙◌, refl, sym, ap, subst, unwrap_or, ℕ, ◌+◌, ◌<◌, ◌≤◌, true, List, [], ◌∷◌, ◌++◌, length, drop, fold, Option, Some, None, arith, length-append, eqb-true}
+use Rattle.std.proofs.Common.{◌≡◌, ◌⊎◌, inl, inr, ◌∙◌, refl, sym, ap, subst, unwrap_or, ℕ, ◌+◌, ◌<◌, ◌≤◌, true, List, [], ◌∷◌, ◌++◌, length, drop, fold, Option, Some, None, arith, length-append, eqb-true}
 use Rattle.std.specs.Prelude.{nat_eq, slice_get, slice_set, option_map}
 use Rattle.std.specs.Cmp.{nat_eq_equiv}
 use Rattle.std.specs.List.{AllByRecursion, IsDistinct, list_any}
@@ -70,19 +70,13 @@ gone_still gone slot id there = (there.0, get_more gone (option_to_list slot) th
 -- who goes now is gone
 gone_now : (gone : List ℕ) (slot : Option ℕ) (id : ℕ) → slot ≡ Some id
     → HasGone (gone ++ option_to_list slot) id
-gone_now gone slot id e = (
-  length gone,
-  ap (λ (s : Option ℕ). slice_get (gone ++ option_to_list s) (length gone)) e
-      ∙ get_seam gone [] id,
-)
+gone_now gone slot id e = (length gone, rw e (get_seam gone [] id))
 
 -- who has gone, with one more
 gone_from : (gone : List ℕ) (slot : Option ℕ) (id : ℕ) → HasGone (gone ++ option_to_list slot) id
     → HasGone gone id ⊎ (slot ≡ Some id)
-gone_from gone slot id there = ⊎_elim
-    (λ (before : slice_get gone there.0 ≡ Some id). inl (there.0, before))
-    (λ (last : slot ≡ Some id). inr last)
-    (gone_more gone slot there.0 id there.1)
+gone_from gone slot id there = elim (gone_more gone slot there.0 id there.1)
+    [ inl before ↦ inl (there.0, before) | inr last ↦ inr last ]
 
 module _ (cells : List (Option Occupant)) (before : List Link) (size : ℕ) (start : People) where
   -- the first id of those that come
@@ -99,20 +93,12 @@ module _ (cells : List (Option Occupant)) (before : List Link) (size : ℕ) (sta
   goes_or_stays : (scene : Scene) (at : ℕ) (new : Option Occupant) (id : ℕ)
       → IsStanding scene.cells id → IsStanding (slice_set scene.cells at new) id
       ⊎ HasGone (scene.gone ++ option_to_list (standing_at scene at)) id
-  goes_or_stays scene at new id stands = ⊎_elim
-      (λ (same : stands.0 ≡ at).
-      let here : Stands scene.cells at stands.1 =
-      subst (λ n. Stands scene.cells n stands.1) same stands.2 in
-      inr (gone_now scene.gone (standing_at scene at) id
-      (standing_id scene at stands.1 here ∙ ap (λ (n : ℕ). Some n) stands.3)))
-      (λ (other : stands.0 ≡ at → ⊥).
-      inl (
-        stands.0,
-        stands.1,
-        get_other scene.cells at stands.0 new other ∙ stands.2,
-        stands.3,
-      ))
-      (cases_eq stands.0 at)
+  goes_or_stays scene at new id stands = elim (cases_eq stands.0 at) [
+    | inl same ↦ inr (gone_now scene.gone (standing_at scene at) id
+        (standing_id scene at stands.1 (rw same at stands.2) ∙ ap (λ (n : ℕ). Some n) stands.3))
+    | inr other ↦ inl
+        (stands.0, stands.1, get_other scene.cells at stands.0 new other ∙ stands.2, stands.3)
+  ]
 
   -- who goes stood there
   went_stood : (scene : Scene) (at id : ℕ) → standing_at scene at ≡ Some id
@@ -146,14 +132,14 @@ module _ (cells : List (Option Occupant)) (before : List Link) (size : ℕ) (sta
           (stands_before scene.cells stands.0 at stands.1 stands.2).0,
           stands.3,
         );
-        gone = λ id there. ⊎_elim (λ (before : HasGone scene.gone id). t.gone id before)
-            (λ (last : standing_at scene at ≡ Some id). t.standing id (went_stood scene at id last))
-            (gone_from scene.gone (standing_at scene at) id there);
-        left = λ id been. ⊎_elim
-            (λ (stands : IsStanding scene.cells id). goes_or_stays scene at None id stands)
-            (λ (there : HasGone scene.gone id).
-            inr (gone_still scene.gone (standing_at scene at) id there))
-            (t.left id been);
+        gone = λ id there. elim (gone_from scene.gone (standing_at scene at) id there) [
+          | inl before ↦ t.gone id before
+          | inr last ↦ t.standing id (went_stood scene at id last)
+        ];
+        left = λ id been. elim (t.left id been) [
+          | inl stands ↦ goes_or_stays scene at None id stands
+          | inr there ↦ inr (gone_still scene.gone (standing_at scene at) id there)
+        ];
         once = once_on scene at is t.once;
         apart = λ id stands there. (scene_death size start scene is at).gone stands.0 there.0
             stands.1 stands.2 (there.1 ∙ ap (λ (n : ℕ). Some n) (sym stands.3));
@@ -180,61 +166,53 @@ module _ (cells : List (Option Occupant)) (before : List Link) (size : ℕ) (sta
       let at = link.cell in
       let more : length (scene.everyone ++ link ∷ []) ≡ length scene.everyone + 1 =
       length-append scene.everyone (link ∷ []) in
-      let up : length scene.everyone ≤ length (scene.everyone ++ link ∷ []) = omega (arith, more) in
-      let lift : (id : ℕ) → HasBeen cells first (length scene.everyone) id
-      → HasBeen cells first (length (scene.everyone ++ link ∷ [])) id =
-      λ id. been_more cells first (length scene.everyone) (length (scene.everyone ++ link ∷ []))
-      id up in
+      let lift = λ (id : ℕ). been_more cells first (length scene.everyone)
+      (length (scene.everyone ++ link ∷ [])) id (omega (arith, more)) in
       let older : (id : ℕ) → HasBeen cells first (length scene.everyone) id
       → IsStanding (slice_set scene.cells at (Some new)) id
       ⊎ HasGone (scene.gone ++ option_to_list (standing_at scene at)) id =
-      λ id been. ⊎_elim
-      (λ (stands : IsStanding scene.cells id). goes_or_stays scene at (Some new) id stands)
-      (λ (there : HasGone scene.gone id).
-      inr (gone_still scene.gone (standing_at scene at) id there))
-      (t.left id been) in
+      λ id been. elim (t.left id been) [
+        | inl stands ↦ goes_or_stays scene at (Some new) id stands
+        | inr there ↦ inr (gone_still scene.gone (standing_at scene at) id there)
+      ] in
       record {
         grown = omega (arith, t.grown, more);
-        follows = ap (λ (l : List Link). before ++ l)
-            (drop-append-le first scene.everyone (link ∷ []) t.grown)
-            ∙ sym (append_assoc before (drop first scene.everyone) (link ∷ []))
-            ∙ ap (λ (l : List Link). l ++ link ∷ []) t.follows;
-        standing = λ id stands. ⊎_elim
-            (λ (here : (stands.0 ≡ at) × (new ≡ stands.1)).
-            inr (let e = ap (λ (o : Occupant). o.id) here.1 in (
-              omega (arith, t.grown, next, e, stands.3),
-              omega (arith, more, next, e, stands.3),
-            )))
-            (λ (far : Stands scene.cells stands.0 stands.1 × (stands.0 ≢ at)).
-            lift id (t.standing id (stands.0, stands.1, far.0, stands.3)))
-            (stands_with scene.cells stands.0 at new stands.1 stands.2);
-        gone = λ id there. ⊎_elim
-            (λ (before : HasGone scene.gone id). lift id (t.gone id before))
-            (λ (last : standing_at scene at ≡ Some id).
-            lift id (t.standing id (went_stood scene at id last)))
-            (gone_from scene.gone (standing_at scene at) id there);
-        left = λ id been. ⊎_elim
-            (λ (stood : IsStanding cells id). older id (inl stood))
-            (λ (came : (first ≤ id) × (id < length (scene.everyone ++ link ∷ []))). ⊎_elim
-            (λ (low : id < length scene.everyone). older id (inr (came.0, low)))
-            (λ (high : length scene.everyone ≤ id).
-            inl (
+        follows = rw (
+          drop-append-le first scene.everyone (link ∷ []) t.grown,
+          ← append_assoc before (drop first scene.everyone) (link ∷ []),
+          t.follows,
+        ) refl;
+        standing = λ id stands.
+            elim (stands_with scene.cells stands.0 at new stands.1 stands.2) [
+              | inl here ↦
+                  let e = ap (λ (o : Occupant). o.id) here.1 in
+                  inr (omega (arith, t.grown, next, e, stands.3), omega (arith, more, next, e, stands.3))
+              | inr far ↦ lift id (t.standing id (stands.0, stands.1, far.0, stands.3))
+            ];
+        gone = λ id there. elim (gone_from scene.gone (standing_at scene at) id there) [
+          | inl before ↦ lift id (t.gone id before)
+          | inr last ↦ lift id (t.standing id (went_stood scene at id last))
+        ];
+        left = λ id been. elim been [
+          | inl stood ↦ older id (inl stood)
+          | inr came ↦ elim (cases_lt id (length scene.everyone)) [
+            | inl low ↦ older id (inr (came.0, low))
+            | inr high ↦ inl (
               at,
               new,
-              get_written scene.cells at (Some new)
-                  (omega (arith, within, is.sized)),
+              get_written scene.cells at (Some new) (omega (arith, within, is.sized)),
               omega (arith, next, high, came.1, more),
-            ))
-            (cases_lt id (length scene.everyone)))
-            been;
+            )
+          ]
+        ];
         once = once_on scene at is t.once;
         apart = λ id stands there. (scene_newcomer size start scene is link organism next same).gone
             stands.0 there.0 stands.1 stands.2 (there.1 ∙ ap (λ (n : ℕ). Some n) (sym stands.3));
-        parents = λ place parent other low there e. ⊎_elim
-            (λ (before : slice_get scene.everyone place ≡ Some other).
-            t.parents place parent other low before e)
-            (λ (last : link ≡ other). parents parent (ap (λ (l : Link). l.parent) last ∙ e))
-            (get_last scene.everyone link place other there);
+        parents = λ place parent other low there e.
+            elim (get_last scene.everyone link place other there) [
+              | inl before ↦ t.parents place parent other low before e
+              | inr last ↦ parents parent (rw last e)
+            ];
       }
 
   -- the parent of each of these births stood there
@@ -298,17 +276,15 @@ module _ (laws : LifeLaws) (config : ConfigValues) (fit : IsConfig config) where
         (lives_lawful laws config fit n start w is) in
         record {
           grown = omega arith;
-          follows = ap (λ (l : List Link). w.everyone ++ l)
-              (drop_all (length w.everyone) w.everyone (omega arith)) ∙ append-nil w.everyone;
+          follows = rw (drop_all (length w.everyone) w.everyone (omega arith)) (append-nil w.everyone);
           standing = λ id stands.
               let was = folk.same stands.0 stands.1 stands.2 in
               inl (stands.0, was.0, was.1, was.2 ∙ stands.3);
           gone = λ id there. absurd cc;
-          left = λ id been. ⊎_elim
-              (λ (stood : IsStanding w.cells id). inl (stays folk.ids id stood))
-              (λ (came : (length w.everyone ≤ id) × (id < length w.everyone)).
-              absurd (omega (arith, came.0, came.1)))
-              been;
+          left = λ id been. elim been [
+            | inl stood ↦ inl (stays folk.ids id stood)
+            | inr came ↦ absurd (omega (arith, came.0, came.1))
+          ];
           once = tt;
           apart = λ id stands there. absurd cc;
           parents = λ place parent link low there e.
@@ -320,19 +296,21 @@ module _ (laws : LifeLaws) (config : ConfigValues) (fit : IsConfig config) where
         stays ids id stood =
             let same : option_map id_of (slice_get (left_by (lives_after config w)) stood.0)
             ≡ Some (Some stood.1.id) =
-            sym (slice_get-map id_of (left_by (lives_after config w)) stood.0)
-            ∙ ap (λ (l : List (Option ℕ)). slice_get l stood.0) ids
-            ∙ slice_get-map id_of w.cells stood.0 ∙ ap (option_map id_of) stood.2 in
+            rw (
+              ← slice_get-map id_of (left_by (lives_after config w)) stood.0,
+              ids,
+              slice_get-map id_of w.cells stood.0,
+              stood.2,
+            ) refl in
             by (slice_get (left_by (lives_after config w)) stood.0) refl same
           where
             by : (found : Option (Option Occupant))
                 → slice_get (left_by (lives_after config w)) stood.0 ≡ found
                 → option_map id_of found ≡ Some (Some stood.1.id)
                 → IsStanding (left_by (lives_after config w)) id
-            by None e same = absurd cc
-            by (Some None) e same = absurd cc
             by (Some (Some o)) e same =
                 let it : o.id ≡ stood.1.id = cc in (stood.0, o, e, it ∙ stood.3)
+            by _ e same = absurd cc
 
     -- so it is at the end of the update
     turnover_next : IsTurnover w.cells w.everyone (next_scene config w)
