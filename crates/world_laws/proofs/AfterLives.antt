@@ -1,5 +1,5 @@
 -- Who stands in the cells after the lives of an update, and how many newborns there are.
-use Rattle.std.proofs.Common.{◌≡◌, ℕ, zero, suc, ◌+◌, ◌<◌, ◌≤◌, List, [], ◌∷◌, map, length, take, Option, Some, None, refl, sym, ap, subst, ◌∙◌, arith, length-append, inl, inr, sum}
+use Rattle.std.proofs.Common.{◌≡◌, ℕ, zero, suc, ◌+◌, ◌<◌, ◌≤◌, List, [], ◌∷◌, map, length, take, Option, Some, None, refl, sym, ap, ◌∙◌, arith, length-append, inl, inr, sum}
 use Rattle.std.specs.Prelude.{slice_get, slice_index_or, flat_map}
 use Rattle.std.specs.List.{AllByRecursion, enumerate_from, zip}
 use Rattle.std.proofs.lemmas.List.{length-map, take_all, get_or_past}
@@ -35,11 +35,10 @@ ids_stay : (config : ConfigValues) (steps : ℕ → ℕ) (from : ℕ) (cells : L
     (lives : List CellLife) → AreLives config steps from cells lives
     → ids_of (left_by lives) ≡ ids_of cells
 ids_stay config steps from [] [] are = refl
-ids_stay config steps from [] (l ∷ lives) are = absurd are
-ids_stay config steps from (slot ∷ cells) [] are = absurd are
 ids_stay config steps from (slot ∷ cells) (l ∷ lives) are =
     rw (slot_id config (steps from) slot l are.0, ids_stay config steps (from + 1) cells lives are.1)
     refl
+ids_stay config steps from _ _ are = absurd are
 
 -- who stood in a cell before, of which this is known
 pub record WasIn (slot : Option (Option Occupant)) (o : Occupant) : Type 0 where
@@ -61,25 +60,19 @@ slot_was config steps None l cells o is e = let n = is.0 in absurd cc
 slot_was config steps (Some x) l cells o is e =
     let f = is.stays in
     let same : is.who ≡ o = cc in
-    record {
-      who = x;
-      stood = refl;
-      id = sym is.id ∙ ap (λ (y : Occupant). y.id) same;
-      genome = sym is.genome ∙ ap (λ (y : Occupant). y.organism.genome) same;
-      sound = subst (λ (y : Occupant). IsSoundOrganism y.organism) same is.sound;
-    }
+    rw (← same)
+    (record { who = x; stood = refl; id = sym is.id; genome = sym is.genome; sound = is.sound })
 
 -- who stands after the lives is sound, and stood there before with its id and genome
 pub was_there : (config : ConfigValues) (steps : ℕ → ℕ) (from : ℕ) (cells : List (Option Occupant))
     (lives : List CellLife) → AreLives config steps from cells lives → (cell : ℕ) (o : Occupant)
     → Stands (left_by lives) cell o → WasThere cells cell o
 was_there config steps from [] [] are cell o h = absurd cc
-was_there config steps from [] (l ∷ lives) are cell o h = absurd are
-was_there config steps from (slot ∷ cells) [] are cell o h = absurd are
 was_there config steps from (slot ∷ cells) (l ∷ lives) are zero o h =
     let e : l.occupant ≡ Some o = cc in slot_was config (steps from) slot l cells o are.0 e
 was_there config steps from (slot ∷ cells) (l ∷ lives) are (suc cell) o h =
     was_there config steps (from + 1) cells lives are.1 cell o h
+was_there config steps from _ _ are cell o h = absurd are
 
 -- lives leave the cells their ids and genomes
 pub folk_kept : (config : ConfigValues) (steps : ℕ → ℕ) (from : ℕ) (cells : List (Option Occupant))
@@ -95,8 +88,8 @@ folk_kept config steps from cells lives are = record {
 pub sound_kept : (config : ConfigValues) (steps : ℕ → ℕ) (from : ℕ) (cells : List (Option Occupant))
     (lives : List CellLife) → AreLives config steps from cells lives
     → Each IsSoundOrganism (left_by lives)
-sound_kept config steps from cells lives are =
-    λ cell o h. (was_there config steps from cells lives are cell o h).sound
+sound_kept config steps from cells lives are cell o h =
+    (was_there config steps from cells lives are cell o h).sound
 
 -- the parent lived when the update began, and the newborn is as the rules want it
 pub record IsDelivery (config : ConfigValues) (size : ℕ) (start : People) (d : Delivery) : Type 0
@@ -134,8 +127,6 @@ module _ (config : ConfigValues) (P : Delivery → Type 0) where
       → IsNewborn config o.organism.genome n → P (delivery_of at o.id n))
       → AllByRecursion P (flat_map births_in (enumerate_from from lives))
   births_hold steps size from [] [] are fits each = tt
-  births_hold steps size from [] (l ∷ lives) are fits each = absurd are
-  births_hold steps size from (slot ∷ cells) [] are fits each = absurd are
   births_hold steps size from (slot ∷ cells) (l ∷ lives) are fits each =
       all_append P (births_by from l.newborns l.occupant)
       (flat_map births_in (enumerate_from (from + 1) lives))
@@ -143,6 +134,7 @@ module _ (config : ConfigValues) (P : Delivery → Type 0) where
       (λ o n e born. each 0 from o n (ap Some e) (omega (arith, fits)) born))
       (births_hold steps size (from + 1) cells lives are.1 (omega (arith, fits))
       (λ cell at o n h low born. each (suc cell) at o n h low born))
+  births_hold steps size from _ _ are fits each = absurd are
 
 -- the newborns of an update are lawful
 pub births_lawful : (config : ConfigValues) (size : ℕ) (start : People) (steps : ℕ → ℕ)
@@ -188,8 +180,6 @@ births_few_from : (config : ConfigValues) (steps : ℕ → ℕ) (from : ℕ)
     → length (flat_map births_in (enumerate_from from lives)) ≤ steps_in_all steps from
     (length cells)
 births_few_from config steps from [] [] are = omega arith
-births_few_from config steps from [] (l ∷ lives) are = absurd are
-births_few_from config steps from (slot ∷ cells) [] are = absurd are
 births_few_from config steps from (slot ∷ cells) (l ∷ lives) are =
     omega (
       arith,
@@ -198,6 +188,7 @@ births_few_from config steps from (slot ∷ cells) (l ∷ lives) are =
       length-append (births_by from l.newborns l.occupant)
           (flat_map births_in (enumerate_from (from + 1) lives)),
     )
+births_few_from config steps from _ _ are = absurd are
 
 -- no more newborns than steps
 pub births_few : (config : ConfigValues) (steps : ℕ → ℕ) (cells : List (Option Occupant))
@@ -215,10 +206,8 @@ entries_from xs from (suc count) =
     elim (cases_lt from (length xs)) [
       | inl within ↦ omega (arith, rest, sum_by_more (λ x. x) xs from 0 within)
       | inr past ↦
-          let nothing : slice_index_or xs from 0 ≡ 0 = get_or_past xs from 0 past in
-          let same : sum (take (from + 1) xs) ≡ sum (take from xs) =
-          ap sum (take_all (from + 1) xs (omega (arith, past)) ∙ sym (take_all from xs past)) in
-          omega (arith, rest, nothing, same)
+          let same = rw (take_all (from + 1) xs (omega (arith, past))) at rest in
+          rw (take_all from xs past) (omega (arith, same, get_or_past xs from 0 past))
     ]
 
 -- so many first entries of a list are together no more than its sum
@@ -231,14 +220,9 @@ pub turns_lawful : (config : ConfigValues) (size : ℕ) (start : People) (births
     (placings : List Placing) → AllByRecursion (IsDelivery config size start) births
     → AllByRecursion (λ (p : Placing). p.cell < size) placings
     → AllByRecursion (IsTurn size start) (zip births placings)
-turns_lawful config size start [] placings lawful within = tt
-turns_lawful config size start (b ∷ births) [] lawful within = tt
-turns_lawful config size start (b ∷ births) (p ∷ placings) lawful within = (
-  record {
-    letters = lawful.0.letters;
-    lived = lawful.0.lived;
-    child = lawful.0.born.child;
-    within = within.0;
-  },
-  turns_lawful config size start births placings lawful.1 within.1,
-)
+turns_lawful config size start (b ∷ births) (p ∷ placings) lawful within =
+    let d = lawful.0 in (
+      record { letters = d.letters; lived = d.lived; child = d.born.child; within = within.0 },
+      turns_lawful config size start births placings lawful.1 within.1,
+    )
+turns_lawful config size start _ _ lawful within = tt

@@ -103,8 +103,6 @@ module _ (size : ℕ) (start : People) (small : size ≤ 65536) where
       → AllByRecursion (IsDelivery config size start) births
       → AllByRecursion (λ (p : Placing). p.cell < size) placings
       → Forms (scan (with_newborn config) birth_line scene (zip births placings))
-  births_fit config scene [] placings is room are within = tt
-  births_fit config scene (b ∷ births) [] is room are within = tt
   births_fit config scene (b ∷ births) (p ∷ placings) is room are within =
       let parent = slice_get_within start b.parent (Some are.0.letters) are.0.lived in
       let over = over_fits scene (length (b ∷ births)) is room p.cell in
@@ -121,6 +119,7 @@ module _ (size : ℕ) (start : People) (small : size ≤ 65536) where
             (scene_birth size start config scene (b, p) is)
             (room_birth config scene (length births) (b, p) room) are.1 within.1,
       )
+  births_fit config scene _ _ is room are within = tt
 
 -- deaths leave a scene its room for newcomers
 room_deaths : (scene : Scene) (more : ℕ) (cells : List ℕ) → HasRoom scene more

@@ -48,12 +48,11 @@ module _ (laws : LifeLaws) (config : ConfigValues) (fit : IsConfig config) where
   small_births : (scene : Scene) (births : List Delivery) (placings : List Placing)
       → length scene.everyone + length births ≤ 2 ^ 58 → AllByRecursion (IsBorn config) births
       → GiveSmall (scan (with_newborn config) birth_line scene (zip births placings))
-  small_births scene [] placings few are = tt
-  small_births scene (b ∷ births) [] few are = tt
   small_births scene (b ∷ births) (p ∷ placings) few are =
       let next = with_newborn config scene (b, p) in
       let goes = goes_birth laws config fit scene (b, p) are.0 in
       (omega (arith, few), small_births next births placings (omega (arith, few, goes.few)) are.1)
+  small_births scene _ _ few are = tt
 
   -- the lines of an event
   small_what : (scene : Scene) (what : WhatValue) → length scene.everyone < 2 ^ 58

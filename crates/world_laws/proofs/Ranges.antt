@@ -1,5 +1,5 @@
 -- The organisms of a run stay in range, and its worlds gave few ids.
-use Rattle.std.proofs.Common.{◌≡◌, inl, inr, ◌∙◌, refl, sym, ap, subst, ℕ, zero, suc, ◌+◌, ◌*◌, ◌≤◌, Bool, false, List, [], ◌∷◌, length, map, sum, Option, Some, None, arith}
+use Rattle.std.proofs.Common.{◌≡◌, inl, inr, ◌∙◌, refl, sym, ap, ℕ, zero, suc, ◌+◌, ◌*◌, ◌≤◌, Bool, false, List, [], ◌∷◌, length, map, sum, Option, Some, None, arith}
 use Rattle.std.specs.Prelude.{fold, slice_index_or}
 use Rattle.std.specs.List.{AllByRecursion, zip}
 use Rattle.std.proofs.Math.Nat.{mul-le-mul}
@@ -91,12 +91,11 @@ module _ (config : ConfigValues) (fit : IsConfig config) (ages : ℕ) (some : 1 
       → AllByRecursion (IsBorn config) births
       → AllByRecursion (λ (d : Delivery). BringsNine d.newborn) births
       → AllByRecursion IsEquipped placings → AllByRecursion ComesInRange (zip births placings)
-  come_in_range [] placings born nine equipped = tt
-  come_in_range (b ∷ births) [] born nine equipped = tt
   come_in_range (b ∷ births) (p ∷ placings) born nine equipped = (
     record { born = born.0; nine = nine.0; equipped = equipped.0 },
     come_in_range births placings born.1 nine.1 equipped.1,
   )
+  come_in_range _ _ born nine equipped = tt
 
   -- each who stands in these cells is in range
   abbrev InRange : List (Option Occupant) → Type 0
@@ -210,8 +209,7 @@ module _ (laws : LifeLaws) (keep : KeepLimits) (config : ConfigValues) (fit : Is
         (beginning x.organism) steps in
         let who : Occupant = record { id = x.id; organism = ended.0.organism } in
         let is : who ≡ o = cc in
-        subst (λ (y : Occupant). IsInRange config (ages + 65536000) y.organism) is
-        (range_ended ages update cell steps x few (stood x refl).0 (stood x refl).1 alive)
+        rw (← is) (range_ended ages update cell steps x few (stood x refl).0 (stood x refl).1 alive)
 
     -- the newborns of a life
     range_newborns : (ages update cell steps : ℕ) (slot : Option Occupant)
@@ -314,9 +312,8 @@ module _ (laws : LifeLaws) (keep : KeepLimits) (config : ConfigValues) (fit : Is
     range_first : Each (IsInRange config 1) (first_world config).cells
     unfolding first_world
     range_first cell o h =
-        subst (λ (x : Occupant). IsInRange config 1 x.organism) (only_founder config cell o h).1
-        (range_founder config fit 1 (omega arith) config.founder_cell 0 config.ancestor
-        fit.long_enough fit.short_enough)
+        rw (← (only_founder config cell o h).1) (range_founder config fit 1 (omega arith)
+        config.founder_cell 0 config.ancestor fit.long_enough fit.short_enough)
 
     -- each organism of a run
     pub range_after : (n : ℕ)
@@ -332,8 +329,7 @@ module _ (laws : LifeLaws) (keep : KeepLimits) (config : ConfigValues) (fit : Is
           own = own_after laws config fit n;
         }) in
         let ages : 1 + 65536000 * n + 65536000 ≡ 1 + 65536000 * suc n = omega arith in
-        subst (λ (k : ℕ). Each (IsInRange config k) (next_world config (world_after config n)).cells)
-        ages next
+        rw ages at next
 
 module _ (laws : LifeLaws) (config : ConfigValues) (fit : IsConfig config) where
   -- each world of a run has had somebody
