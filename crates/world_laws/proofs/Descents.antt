@@ -1,11 +1,10 @@
 -- The genomes of all who ever were in a world come from their parents'.
-use Rattle.std.proofs.Common.{◌≡◌, ℕ, zero, suc, List, [], ◌∷◌, ◌++◌, Option, Some, None, Ok, refl, sym, ap, subst, ◌∙◌, inl, inr}
+use Rattle.std.proofs.Common.{◌≡◌, ℕ, zero, suc, List, [], ◌∷◌, ◌++◌, Option, Some, None, refl, sym, subst, ◌∙◌, inl, inr}
 use Rattle.std.specs.Prelude.{slice_get, option_map, fold}
 use Rattle.std.specs.List.{AllByRecursion}
 use Rattle.std.proofs.lemmas.Option.{slice_get-map}
 use Rattle.instruction_set.specs.declared.letter.Letter.{Letter}
 use Rattle.birth_board.specs.declared.placing.Placing.{Placing}
-use Rattle.mutations.specs.BirthRecord.{child_of}
 use Rattle.lineage_log.specs.Links.{Link}
 use Rattle.world_config.specs.Events.{EventValue, WhatValue, inject, clear, rate}
 use Rattle.world_config.specs.Values.{ConfigValues}
@@ -56,15 +55,13 @@ descended_birth size start config scene turn is lawful are =
     let wrote = sym (slice_get-map (λ (l : Link). l.genome) scene.everyone b.parent)
     ∙ is.agree b.parent lawful.letters lawful.lived in
     let found = link_there (slice_get scene.everyone b.parent) lawful.letters wrote in
-    let child : child_of found.0.genome b.newborn.origin ≡ Ok b.newborn.genome =
-    ap (λ (g : List Letter). child_of g b.newborn.origin) found.2 ∙ lawful.child in
     descended_more scene.everyone (birth_link (next_id scene) scene.update b turn.1.cell) are (
       found.0,
       found.1,
       record {
         record_of_birth = b.newborn.origin;
         recorded = refl;
-        child = child;
+        child = rw found.2 lawful.child;
       },
     )
 
@@ -93,7 +90,7 @@ unfolding with_newcomer
 descended_what config scene nth (inject cell letters) are =
     descended_more scene.everyone (founder_link (next_id scene) scene.update cell letters) are refl
 descended_what config scene nth (clear first last) are =
-    subst AreDescended (sym (same_everyone scene (cells_from first last))) are
+    rw (same_everyone scene (cells_from first last)) are
 descended_what config scene nth (rate name ppm) are = are
 
 -- so it is after events, one after another
@@ -108,9 +105,8 @@ descended_events config =
 founder_descended : (config : ConfigValues)
     → AreDescended (founder_link 0 0 config.founder_cell config.ancestor ∷ [])
 founder_descended config zero link h =
-    let founder = founder_link 0 0 config.founder_cell config.ancestor in
-    let same : founder ≡ link = cc in
-    subst (λ (l : Link). ComesFrom (founder ∷ []) l.parent l) same refl
+    let same : founder_link 0 0 config.founder_cell config.ancestor ≡ link = cc in
+    rw (← same) refl
 founder_descended config (suc place) link h = absurd cc
 
 module _ (laws : LifeLaws) (config : ConfigValues) (fit : IsConfig config) where

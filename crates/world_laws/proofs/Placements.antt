@@ -72,24 +72,19 @@ neighbours_in torus cell h =
     around_in torus (column_of torus cell) (row_of torus cell) some rows column
     (row_in torus.width torus.height cell some h)
 
--- what holds of an item and of others holds of them, with the item or without it
-filter_step : {X : Type 0} (P : X → Type 0) (b : Bool) (x : X) (xs : List X) → P x
-    → AllByRecursion P xs → AllByRecursion P (cond b (x ∷ xs) xs)
-filter_step P true x xs h all = (h, all)
-filter_step P false x xs h all = all
+-- what holds of all of two lists holds of all of whichever is taken
+all_or : {X : Type 0} (P : X → Type 0) (b : Bool) (xs ys : List X) → AllByRecursion P xs
+    → AllByRecursion P ys → AllByRecursion P (cond b xs ys)
+all_or P true xs ys h k = h
+all_or P false xs ys h k = k
 
 -- a part of a list has what all of it has
 pub all_filtered : {X : Type 0} (P : X → Type 0) (test : X → Bool) (xs : List X)
     → AllByRecursion P xs → AllByRecursion P (filter test xs)
 all_filtered P test [] all = tt
 all_filtered P test (x ∷ xs) all =
-    filter_step P (test x) x (filter test xs) all.0 (all_filtered P test xs all.1)
-
--- what holds of all of two lists holds of all of whichever is taken
-all_or : {X : Type 0} (P : X → Type 0) (b : Bool) (xs ys : List X) → AllByRecursion P xs
-    → AllByRecursion P ys → AllByRecursion P (cond b xs ys)
-all_or P true xs ys h k = h
-all_or P false xs ys h k = k
+    all_or P (test x) (x ∷ filter test xs) (filter test xs)
+    (all.0, all_filtered P test xs all.1) (all_filtered P test xs all.1)
 
 -- an entry of a list, or the default
 all_at : (P : ℕ → Type 0) (xs : List ℕ) (i d : ℕ) → P d → AllByRecursion P xs

@@ -1,5 +1,5 @@
 -- The lines of a run take the reader from the founder's world to that after its updates.
-use Rattle.std.proofs.Common.{◌≡◌, ℕ, suc, ◌+◌, ◌<◌, ◌≤◌, List, [], ◌∷◌, map, length, subst, ◌∙◌, arith}
+use Rattle.std.proofs.Common.{◌≡◌, ℕ, suc, ◌+◌, ◌<◌, ◌≤◌, List, [], ◌∷◌, map, length, ◌∙◌, arith}
 use Rattle.std.specs.Prelude.{slice_index_or}
 use Rattle.std.specs.List.{AllByRecursion, range_with_len}
 use Rattle.std.proofs.lemmas.List.{length-map}
@@ -7,8 +7,7 @@ use Rattle.std.proofs.lemmas.List.FromFn.{length-range_with_len}
 use Rattle.std.proofs.lemmas.Slice.Zip.{length-zip}
 use Rattle.birth_board.specs.declared.placing.Placing.{Placing}
 use Rattle.birth_board.proofs.PlacementLemmas.{placements_number}
-use Rattle.lineage_log.specs.Order.{LogPlace, Within}
-use Rattle.lineage_log.specs.Replay.{Seen}
+use Rattle.lineage_log.specs.Order.{Within}
 use Rattle.organism.specs.Lived.{IsSoundOrganism}
 use Rattle.world_config.specs.Events.{EventValue, WhatValue, inject, clear, rate}
 use Rattle.world_config.specs.Values.{ConfigValues}
@@ -25,7 +24,7 @@ use Rattle.world_laws.proofs.UpdateLines.{IsWhat, IsEvent}
 use Rattle.world_laws.proofs.Updates.{IsWorld, people_after, world_left, scene_begun, begun_is, seen_begun, AreTurns, scene_last, lives_tell}
 use Rattle.world_laws.proofs.Placements.{placements_in}
 use Rattle.world_laws.proofs.LivesLemmas.{AreLives, lives_are}
-use Rattle.world_laws.proofs.AfterLives.{IsDelivery, left_by, folk_kept, births_lawful, turns_lawful}
+use Rattle.world_laws.proofs.AfterLives.{IsDelivery, folk_kept, births_lawful, turns_lawful}
 use Rattle.world_laws.specs.Bounds.{IsConfig, size_of, FitsWhat}
 use Rattle.world_laws.proofs.Configs.{filter_few, FitsPlaced, events_fit, few_cells}
 use Rattle.world_laws.proofs.Sounds.{Goes, goes_more}
@@ -131,13 +130,8 @@ module _ (laws : LifeLaws) (config : ConfigValues) (fit : IsConfig config) (n : 
       let lines = lines_of_lives config ended lives in
       let told = lives_tell size start config ended lives scene_ended turns_are
       (λ update. events_are config (events_at config update) (events_fit config fit update)) in
-      let after : LogPlace = Within
-      (between (people_after start last) (last.update + 1) last.cells) in
-      let later : Seen = seen_in last.cells last.everyone in
-      subst (λ (s : Seen). Tells (Within (between start (w.update + 1) w.cells)) s lines after
-      later) (seen_begun size start w lives is.world folk)
-      (subst (λ r. Tells (Within r) (seen_in (left_by lives) w.everyone) lines after later)
-      (begun_is size start w lives is.world folk) told)
+      rw (seen_begun size start w lives is.world folk) at
+      (rw (begun_is size start w lives is.world folk) at told)
 
   -- few die of age
   pub few_deaths : length (deaths_of (lives_after config w)) ≤ size_of config

@@ -1,7 +1,8 @@
 -- All deaths of age, all births and all events of an update, line after line.
-use Rattle.std.proofs.Common.{add-zero, ◌≡◌, ℕ, zero, suc, ◌+◌, ◌<◌, ◌≤◌, Bool, true, false, cond, List, [], ◌∷◌, length, Option, Some, None, Ok, refl, subst, arith}
+use Rattle.std.proofs.Common.{add-zero, ◌≡◌, ℕ, zero, suc, ◌+◌, ◌<◌, ◌≤◌, Bool, true, List, [], ◌∷◌, length, Option, Some, None, Ok, refl, arith, inl, inr}
 use Rattle.std.specs.Prelude.{slice_get, option_map, filter, fold}
 use Rattle.std.specs.List.{filter_map, cons_option, scan, range_with_len, AllByRecursion, flat_map}
+use Rattle.std.proofs.lemmas.Bool.{cases_Bool}
 use Rattle.std.proofs.lemmas.Bool.Decides.{nat_tests}
 use Rattle.instruction_set.specs.declared.letter.Letter.{Letter}
 use Rattle.birth_board.specs.declared.placing.Placing.{Placing}
@@ -34,19 +35,16 @@ rising_low : (from lower : ℕ) (cells : List ℕ) → lower ≤ from → Rising
 rising_low from lower [] h r = tt
 rising_low from lower (cell ∷ cells) h r = (omega (arith, h, r.0), r.1)
 
--- cells that rise from behind a place rise from it, with that place or without it
-rising_first : (b : Bool) (from : ℕ) (cells : List ℕ) → Rising (from + 1) cells
-    → Rising from (cond b (from ∷ cells) cells)
-rising_first true from cells rest = (omega arith, rest)
-rising_first false from cells rest = rising_low (from + 1) from cells (omega arith) rest
-
 -- a part of a range rises
 pub rising_part : (test : ℕ → Bool) (from count : ℕ)
     → Rising from (filter test (range_with_len from count))
 rising_part test from zero = tt
 rising_part test from (suc count) =
-    rising_first (test from) from (filter test (range_with_len (from + 1) count))
-    (rising_part test (from + 1) count)
+    let rest = rising_part test (from + 1) count in
+    elim (cases_Bool (test from)) [
+      | inl b ↦ rw b (omega arith, rest)
+      | inr b ↦ rw b (rising_low (from + 1) from _ (omega arith) rest)
+    ]
 
 -- lines after which births may come
 pub record ToBirths (start : People) (stage : Stage) (births : ℕ) (scene : Scene)
@@ -76,8 +74,7 @@ death_first : (start : People) (stage : Stage) (births : ℕ) (scene : Scene) (c
     → ToBirths start stage births scene
     (cons_option (option_map (λ id. Death id scene.update cell) slot) others) births last
 death_first start stage births scene cell others last None e may rest after =
-    subst (λ (s : Scene). ToBirths start stage births s others births last) (no_death scene cell e)
-    rest
+    rw (no_death scene cell e) at rest
 death_first start stage births scene cell others last (Some id) e may rest after = record {
   later = after.later;
   may = after.may;
@@ -109,7 +106,7 @@ cleared_first : (start : People) (stage : Stage) (births : ℕ) (scene : Scene) 
     → ToEvents start stage births scene
     (cons_option (option_map (λ id. Cleared id scene.update cell) slot) others) last
 cleared_first start stage births scene cell others last None e rest after =
-    subst (λ (s : Scene). ToEvents start stage births s others last) (no_death scene cell e) rest
+    rw (no_death scene cell e) at rest
 cleared_first start stage births scene cell others last (Some id) e rest after = record {
   later = after.later;
   passes = more_lines (Cleared id scene.update cell ∷ []) others

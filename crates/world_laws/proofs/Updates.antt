@@ -74,11 +74,12 @@ agree_in start everyone id letters agree grown h = elim (cases_lt id (length sta
       let n = length start in
       let tail = map written (drop n everyone) in
       let at : n + (id - n) ≡ id = omega (arith, high) in
-      let there : slice_get everyone id ≡ slice_get (drop n everyone) (id - n) =
-      ap (slice_get everyone) (sym at) ∙ sym (get_dropped n everyone (id - n)) in
       let wrote : option_map written (slice_get everyone id) ≡ Some (Some letters) =
-      ap (option_map written) there ∙ sym (slice_get-map written (drop n everyone) (id - n))
-      ∙ sym (get_right start tail (id - n)) ∙ ap (slice_get (start ++ tail)) at ∙ h in
+      rw at at (rw (
+        get_right start tail (id - n),
+        slice_get-map written (drop n everyone) (id - n),
+        get_dropped n everyone (id - n),
+      ) at (rw (← at) at h)) in
       let found = written_there (slice_get everyone id) letters wrote in
       rw (slice_get-map (λ (l : Link). l.genome) everyone id, found.1, found.2) refl
 ]

@@ -1,5 +1,5 @@
 -- The whole log of a run: its lines in order, from the first to the last, and what they replay to.
-use Rattle.std.proofs.Common.{add-one, ◌≡◌, ℕ, zero, suc, ◌+◌, ◌*◌, ◌<◌, ◌≤◌, true, List, [], ◌∷◌, ◌++◌, map, Option, Some, None, Ok, refl, sym, ap, subst, ◌∙◌, arith, inl, inr}
+use Rattle.std.proofs.Common.{add-one, ◌≡◌, ℕ, zero, suc, ◌+◌, ◌*◌, ◌<◌, ◌≤◌, true, List, [], ◌∷◌, ◌++◌, map, Option, Some, None, Ok, refl, sym, ap, ◌∙◌, arith, inl, inr}
 use Rattle.std.specs.Prelude.{replicate, slice_get, slice_set, option_map, unwrap_or, nat_lt, ◌==◌}
 use Rattle.std.specs.List.{AllByRecursion, filter_map, enumerate_from}
 use Rattle.std.proofs.lemmas.List.{map-set, length-set, length-replicate}
@@ -11,7 +11,6 @@ use Rattle.lineage_log.specs.Order.{LogPlace, Before, Within, After, IsWhole, to
 use Rattle.lineage_log.specs.Replay.{Seen, seen_on, residents_from, replay_of}
 use Rattle.lineage_log.specs.Links.{Link}
 use Rattle.organism.specs.OrganismState.{new_organism}
-use Rattle.organism.specs.Lived.{IsSoundOrganism}
 use Rattle.world_config.specs.Values.{ConfigValues}
 use Rattle.world_rules.specs.World.{Occupant, id_of, ids_of, founder_of, founder_link, empty_cells, first_occupant, first_world}
 use Rattle.world_rules.specs.Update.{next_scene}
@@ -104,12 +103,7 @@ module _ (laws : LifeLaws) (config : ConfigValues) (fit : IsConfig config) where
   founder_known : Known (Some config.ancestor ∷ []) (first_world config).cells
   unfolding first_world
   founder_known cell o h =
-      let who = only_founder config cell o h in
-      let known : slice_get (Some config.ancestor ∷ []) 0
-      ≡ Some (Some (first_occupant config).organism.genome) =
-      ap (λ (g : List Letter). Some (Some g)) (sym (founder_genome config)) in
-      subst (λ (x : Occupant). slice_get (Some config.ancestor ∷ []) x.id
-      ≡ Some (Some x.organism.genome)) who.1 known
+      rw (← (only_founder config cell o h).1, founder_genome config) refl
 
   -- the founder's world
   run_first : IsRun config 0 (Some config.ancestor ∷ []) (first_world config)
@@ -125,8 +119,7 @@ module _ (laws : LifeLaws) (config : ConfigValues) (fit : IsConfig config) where
           ∙ sym (only_founder config other x k).0;
       agree = founder_agrees config;
     };
-    sound = λ cell o h. subst (λ (x : Occupant). IsSoundOrganism x.organism)
-        (only_founder config cell o h).1
+    sound = λ cell o h. rw (← (only_founder config cell o h).1)
         (sound_founder laws config fit config.founder_cell 0 config.ancestor fit.long_enough
         fit.short_enough);
     update = refl;
@@ -153,9 +146,10 @@ module _ (laws : LifeLaws) (config : ConfigValues) (fit : IsConfig config) where
       (slice_set (empty_cells config) config.founder_cell (Some (first_occupant config)))
       ≡ slice_set (replicate (size_of config) None) config.founder_cell (Some 0)
   ids_first =
-      map-set id_of (empty_cells config) config.founder_cell (Some (first_occupant config))
-      ∙ ap (λ (l : List (Option ℕ)). slice_set l config.founder_cell (Some 0))
-      (map-replicate id_of (size_of config) None)
+      rw (
+        map-set id_of (empty_cells config) config.founder_cell (Some (first_occupant config)),
+        map-replicate id_of (size_of config) None,
+      ) refl
 
   -- the first line leads to the reader of the founder's world
   head_told : told_start 2 config.width config.height config.founder_cell config.ancestor
