@@ -1,8 +1,8 @@
 -- What holds of each who stands in the cells, as organisms go and come.
-use Rattle.std.proofs.Common.{◌≡◌, ◌≢◌, ◌⊎◌, inl, inr, ◌∙◌, refl, sym, ap, subst, ℕ, zero, suc, ◌+◌, ◌<◌, ◌≤◌, Bool, true, false, cond, List, [], ◌∷◌, length, map, get_or, Option, Some, None, arith}
-use Rattle.std.specs.Prelude.{filter, flat_map, option_map}
+use Rattle.std.proofs.Common.{◌≡◌, ◌≢◌, inl, inr, sym, subst, ℕ, zero, suc, ◌+◌, ◌<◌, ◌≤◌, Bool, false, List, [], ◌∷◌, length, map, get_or, Option, Some, None, arith}
+use Rattle.std.specs.Prelude.{filter, flat_map}
 use Rattle.std.specs.List.{AllByRecursion, enumerate_from, range_with_len}
-use Rattle.std.proofs.lemmas.Bool.{cases_eq}
+use Rattle.std.proofs.lemmas.Bool.{cases_Bool, cases_eq}
 use Rattle.std.proofs.lemmas.List.{length-map}
 use Rattle.std.proofs.lemmas.List.Elements.{recursion_from_All}
 use Rattle.std.proofs.lemmas.List.FromFn.{get_or-map-range_with_len, length-map-range_with_len}
@@ -31,28 +31,21 @@ stood_before scene (at ∷ ats) cell o h =
     let first = stands_before scene.cells cell at o later.0 in
     (first.0, (first.1, later.1))
 
--- a place that is not among those of a test fails it
-fails_here : (P : ℕ → Type 0) (test : Bool) (place : ℕ) (others : List ℕ)
-    → AllByRecursion P (cond test (place ∷ others) others)
-    → ((test ≡ false) ⊎ P place) × AllByRecursion P others
-fails_here P true place others all = (inr all.0, all.1)
-fails_here P false place others all = (inl refl, all)
-
 -- a place of a range that is none of those that pass a test fails it
 pub fails_test : (test : ℕ → Bool) (from count cell : ℕ)
     → AllByRecursion (λ at. cell ≢ at) (filter test (range_with_len from count)) → from ≤ cell
     → cell < from + count → test cell ≡ false
 fails_test test from zero cell others low high = absurd (omega (arith, low, high))
-fails_test test from (suc count) cell others low high =
-    let parts = fails_here (λ at. cell ≢ at) (test from) from
-    (filter test (range_with_len (from + 1) count)) others in
-    elim (cases_eq cell from) [
-      | inl same ↦ elim parts.0
-          [ inl fails ↦ ap test same ∙ fails | inr other ↦ absurd (other same) ]
-      | inr other ↦
-          let above : from + 1 ≤ cell = omega (arith, low, other) in
-          fails_test test (from + 1) count cell parts.1 above (omega (arith, high))
-    ]
+fails_test test from (suc count) cell others low high = elim (cases_Bool (test from)) [
+  | inl passes ↦
+      let rest = rw passes at others in
+      fails_test test (from + 1) count cell rest.1 (omega (arith, low, rest.0)) (omega (arith, high))
+  | inr fails ↦ elim (cases_eq cell from) [
+    | inl same ↦ rw same fails
+    | inr other ↦ fails_test test (from + 1) count cell (rw fails at others)
+        (omega (arith, low, other)) (omega (arith, high))
+  ]
+]
 
 -- ---- what holds of each, as organisms go and come
 
@@ -91,11 +84,11 @@ life_there run count cell o h =
     ) in
     let at : get_or lives cell no_life ≡ run cell =
     get_or-map-range_with_len run 0 count cell cell no_life low (omega arith) in
-    let there : Some (run cell).occupant ≡ Some (Some o) =
-    ap (λ (l : CellLife). Some l.occupant) (sym at)
-    ∙ ap (option_map (λ (l : CellLife). l.occupant))
-    (sym (slice_get-get_or lives cell no_life (omega (arith, low, long))))
-    ∙ sym (slice_get-map (λ (l : CellLife). l.occupant) lives cell) ∙ h in
+    let there = rw (
+      slice_get-map (λ (l : CellLife). l.occupant) lives cell,
+      slice_get-get_or lives cell no_life (omega (arith, low, long)),
+      at,
+    ) at h in
     (low, at, cc)
 
 -- what holds of the lives of all cells

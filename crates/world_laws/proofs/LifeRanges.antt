@@ -1,8 +1,8 @@
 -- A life keeps the limit and the sets of an organism, and ends before the age of death or with it.
-use Rattle.std.proofs.Common.{◌≡◌, ◌⊎◌, inl, inr, ◌∙◌, refl, sym, ap, ℕ, ℤ, zero, suc, ◌+◌, ◌*◌, ◌<◌, ◌≤◌, Bool, true, false, cond, [], ◌∷◌, length, Option, Some, None, arith}
+use Rattle.std.proofs.Common.{◌≡◌, ◌⊎◌, inl, inr, ◌∙◌, refl, ap, ℕ, ℤ, zero, suc, ◌+◌, ◌*◌, ◌<◌, ◌≤◌, Bool, true, false, [], ◌∷◌, length, Option, Some, None, arith, add-one}
 use Rattle.std.specs.Prelude.{find}
 use Rattle.std.specs.List.{AllByRecursion, range_with_len}
-use Rattle.std.proofs.lemmas.Bool.{cases_eq, cases_lt, eq-eqb}
+use Rattle.std.proofs.lemmas.Bool.{cases_Bool, cases_eq, eq-eqb}
 use Rattle.std.proofs.lemmas.List.{length-replicate}
 use Rattle.instruction_set.specs.declared.letter.Letter.{Letter}
 use Rattle.virtual_cpu.specs.Machine.{Machine, letter_under_ip}
@@ -129,41 +129,30 @@ module _ (keep : KeepLimits) (settings : SettingNumbers) (words : ℕ → ℕ) w
   steps-young start (suc steps) alive death young =
       let before : LifeState = life_state_after settings words start steps in
       let now : LifeState = after_step settings words before in
-      let one_more : steps + 1 ≡ suc steps = omega arith in
       let early : before.organism.age < last-age start =
       steps-young start steps (λ step low. alive step (omega (arith, low))) death young in
       let kept = steps-kept settings words start (suc steps) in
       let lives : is_old settings now.organism ≡ false =
-      ap (λ (n : ℕ). is_old settings (life_state_after settings words start n).organism)
-      (sym one_more) ∙ alive steps (omega arith) in
+      rw (add-one steps) at (alive steps (omega arith)) in
       let other = other-age now.organism (length start.organism.genome) (ap length kept.genome)
       death lives in
       elim (more-age before) [
-        | inl older ↦ elim (cases_lt now.organism.age (last-age start)) [
-          | inl low ↦ low
-          | inr high ↦ absurd (other (omega (arith, high, older, early)))
-        ]
+        | inl older ↦ omega (arith, older, early, other)
         | inr anew ↦ omega (arith, anew, early)
       ]
-
--- a step that is no death, and none later
-no-first : (low : ℕ) (here : Bool) (others : Option ℕ) → cond here (Some low) others ≡ None
-    → (here ≡ false) × (others ≡ None)
-no-first low true others none = absurd cc
-no-first low false others none = (refl, none)
 
 -- where no step is found, each fails the test
 none-found : (test : ℕ → Bool) (low count : ℕ) → find test (range_with_len low count) ≡ None
     → (step : ℕ) → low ≤ step → step < low + count → test step ≡ false
 none-found test low zero none step above below = absurd (omega (arith, above, below))
-none-found test low (suc count) none step above below =
-    let parts = no-first low (test low) (find test (range_with_len (low + 1) count)) none in
-    elim (cases_eq step low) [
-      | inl same ↦ ap test same ∙ parts.0
-      | inr other ↦
-          let later : low + 1 ≤ step = omega (arith, above, other) in
-          none-found test (low + 1) count parts.1 step later (omega (arith, below))
-    ]
+none-found test low (suc count) none step above below = elim (cases_Bool (test low)) [
+  | inl found ↦ let no = rw found at none in absurd cc
+  | inr fails ↦ elim (cases_eq step low) [
+    | inl same ↦ rw same fails
+    | inr other ↦ none-found test (low + 1) count (rw fails at none) step
+        (omega (arith, above, other)) (omega (arith, below))
+  ]
+]
 
 -- what a life leaves; where it was no death, the age is below that of death
 pub record LeavesInRange (settings : SettingNumbers) (start : LifeState)

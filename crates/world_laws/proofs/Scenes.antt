@@ -90,6 +90,22 @@ known_new genomes cells at new known is cell o h = elim (stands_with cells cell 
       (known cell o there.0)
 ]
 
+-- ids stay apart once somebody comes whose id nobody has
+pub apart_new : (cells : List (Option Occupant)) (at : ℕ) (new : Occupant) → Apart cells
+    → ((cell : ℕ) (o : Occupant) → Stands cells cell o → o.id ≡ new.id → ⊥)
+    → Apart (slice_set cells at (Some new))
+apart_new cells at new apart nobody cell other o x h k e =
+    elim (stands_with cells cell at new o h) [
+      | inl here ↦ elim (stands_with cells other at new x k) [
+        | inl too ↦ here.0 ∙ sym too.0
+        | inr there ↦ absurd (nobody other x there.0 (rw here.1 (sym e)))
+      ]
+      | inr there ↦ elim (stands_with cells other at new x k) [
+        | inl too ↦ absurd (nobody cell o there.0 (rw too.1 e))
+        | inr both ↦ apart cell other o x there.0 both.0 e
+      ]
+    ]
+
 -- an id that stands is below the number of genomes
 pub id_below : (genomes : People) (cells : List (Option Occupant)) (cell : ℕ) (o : Occupant)
     → Known genomes cells → Stands cells cell o → o.id < length genomes
@@ -202,17 +218,7 @@ module _ (size : ℕ) (start : People) (scene : Scene) (is : IsScene size start 
         kept = rw (map-append written scene.everyone (link ∷ []), ← same)
             (known_new (map written scene.everyone) scene.cells link.cell new is.kept
             (is-next ∙ sym (length-map scene.everyone written)));
-        apart = λ cell other o x h k e. elim (stands_with scene.cells cell link.cell new o h) [
-          | inl here ↦ elim (stands_with scene.cells other link.cell new x k) [
-            | inl too ↦ here.0 ∙ sym too.0
-            | inr there ↦ absurd (before other x there.0
-                (sym e ∙ sym (ap (λ (y : Occupant). y.id) here.1)))
-          ]
-          | inr there ↦ elim (stands_with scene.cells other link.cell new x k) [
-            | inl too ↦ absurd (before cell o there.0 (e ∙ sym (ap (λ (y : Occupant). y.id) too.1)))
-            | inr both ↦ is.apart cell other o x there.0 both.0 e
-          ]
-        ];
+        apart = apart_new scene.cells link.cell new is.apart before;
         gone = λ cell place o h g. elim (stands_with scene.cells cell link.cell new o h) [
           | inl here ↦
               let low : o.id < length scene.everyone = below_more link.cell place o.id g in
@@ -235,15 +241,11 @@ pub no_death : (scene : Scene) (cell : ℕ) → standing_at scene cell ≡ None
     → with_death scene cell ≡ scene
 unfolding with_death
 no_death scene cell h =
-    let empty : (slot : Option Occupant) → id_of slot ≡ None → slot ≡ None = nobody in
-    let cells : slice_set scene.cells cell None ≡ scene.cells =
-    set_nothing scene.cells cell (empty (slice_index_or scene.cells cell None) h) in
-    let gone : scene.gone ++ option_to_list (standing_at scene cell) ≡ scene.gone =
-    ap (λ s. scene.gone ++ option_to_list s) h ∙ append-nil scene.gone in
-    ap (λ (l : List (Option Occupant)).
-    record scene { cells = l; gone = scene.gone ++ option_to_list (standing_at scene cell) })
-    cells
-    ∙ ap (λ (l : List ℕ). record scene { gone = l }) gone
+    rw (
+      set_nothing scene.cells cell (nobody (slice_index_or scene.cells cell None) h),
+      h,
+      append-nil scene.gone,
+    ) refl
   where
     nobody : (slot : Option Occupant) → id_of slot ≡ None → slot ≡ None
     nobody None e = refl

@@ -1,5 +1,5 @@
 -- Organisms stay sound as a world's update ends, and ids stay few and each of one organism.
-use Rattle.std.proofs.Common.{◌≡◌, ℕ, ◌+◌, ◌-◌, ◌*◌, ◌≤◌, List, [], ◌∷◌, ◌++◌, length, Option, Some, None, refl, sym, ap, ◌∙◌, arith, length-append, inl, inr}
+use Rattle.std.proofs.Common.{◌≡◌, ℕ, ◌+◌, ◌-◌, ◌*◌, ◌≤◌, List, [], ◌∷◌, ◌++◌, length, Option, Some, None, refl, ap, ◌∙◌, arith, length-append, inl, inr}
 use Rattle.std.specs.Prelude.{fold}
 use Rattle.std.specs.List.{AllByRecursion, zip}
 use Rattle.std.specs.Option.{option_to_list}
@@ -18,7 +18,7 @@ use Rattle.world_rules.specs.Scene.{Scene, next_id, standing_at, with_death, wit
 use Rattle.world_rules.specs.Update.{Delivery, child_of_birth, birth_link, with_newborn, after_what, after_event}
 use Rattle.world_laws.specs.LowerLaws.{LifeLaws}
 use Rattle.world_laws.specs.Ranges.{HaveOwnIds}
-use Rattle.world_laws.proofs.Scenes.{Each, stands_before, stands_with}
+use Rattle.world_laws.proofs.Scenes.{apart_new, Each, stands_before, stands_with}
 use Rattle.world_laws.proofs.AfterLives.{IsBorn}
 use Rattle.world_laws.specs.Bounds.{IsConfig, FitsWhat}
 use Rattle.world_laws.proofs.Configs.{few_cells, FitsPlaced, genome_fits}
@@ -113,17 +113,8 @@ own_newcomer scene link organism next ids =
         | inl here ↦ omega (arith, grown, next, id o here.1)
         | inr there ↦ omega (arith, grown, ids.given cell o there.0)
       ];
-      apart = λ cell other o x h k e. elim (stands_with scene.cells cell link.cell new o h) [
-        | inl here ↦ elim (stands_with scene.cells other link.cell new x k) [
-          | inl too ↦ here.0 ∙ sym too.0
-          | inr there ↦
-              absurd (omega (arith, ids.given other x there.0, e, next, id o here.1))
-        ]
-        | inr there ↦ elim (stands_with scene.cells other link.cell new x k) [
-          | inl too ↦ absurd (omega (arith, ids.given cell o there.0, e, next, id x too.1))
-          | inr both ↦ ids.apart cell other o x there.0 both.0 e
-        ]
-      ];
+      apart = apart_new scene.cells link.cell new ids.apart
+          (λ cell o h e. omega (arith, ids.given cell o h, e, next));
     }
 
 -- with a sound newcomer that has the next id one came and at most one died
@@ -171,12 +162,11 @@ module _ (laws : LifeLaws) (config : ConfigValues) (fit : IsConfig config) where
       → AllByRecursion (IsBorn config) births
       → Goes scene (fold (with_newborn config) scene (zip births placings)) (length births)
       (length births)
-  goes_births scene [] placings are = goes_nowhere scene 0 0
-  goes_births scene (b ∷ births) [] are = goes_nowhere scene _ _
   goes_births scene (b ∷ births) (p ∷ placings) are =
       goes_on (goes_birth scene (b, p) are.0)
       (goes_births (with_newborn config scene (b, p)) births placings are.1)
       (omega arith) (omega arith)
+  goes_births scene _ _ are = goes_nowhere scene _ _
 
   -- a founder of an allowed length is a sound organism
   pub sound_founder : (cell nth : ℕ) (letters : List Letter) → config.rules.least ≤ length letters
