@@ -4,7 +4,7 @@ use Rattle.std.specs.Prelude.{slice_get, option_map, IfSome}
 use Rattle.std.proofs.lemmas.Option.{get_or_from_slice_get, slice_get-map}
 use Rattle.lineage_log.specs.Links.{Link}
 use Rattle.world_config.specs.Values.{ConfigValues}
-use Rattle.world_rules.specs.World.{Occupant, World, id_at, id_of}
+use Rattle.world_rules.specs.World.{Occupant, World, id_at}
 use Rattle.world_rules.specs.WorldRun.{world_after}
 use Rattle.world_rules.specs.Descent.{descent_line_of, line_of_parent, descent_lines_of, line_in, IsBelow, AreNumbered}
 use Rattle.world_laws.specs.Heredity.{IsChildOf, ComesFrom, AreDescended, IsDescent, IsLastOfLine}
@@ -86,14 +86,12 @@ last_in laws w are known cell o stands =
     let wrote = sym (slice_get-map written w.everyone o.id) ∙ known cell o stands in
     let found = written_there (slice_get w.everyone o.id) o.organism.genome wrote in
     let line = laws.line w.everyone o.id found.0 are found.1 in
-    let here : id_at w.cells cell ≡ Some o.id =
-    ap id_of (get_or_from_slice_get w.cells cell (Some o) None stands) in
     record {
       last = found.0;
       recorded = found.1;
       genome = found.2;
       before = line_of_parent (descent_lines_of w.everyone) found.0.parent;
-      line = ap (option_map (descent_line_of w.everyone)) here ∙ ap Some line;
+      line = rw (get_or_from_slice_get w.cells cell (Some o) None stands, line) refl;
     }
 
 -- who stands in a cell of a run's world

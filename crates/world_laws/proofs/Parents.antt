@@ -1,5 +1,5 @@
 -- The parents of the newborns of an update.
-use Rattle.std.proofs.Common.{ℕ, ◌+◌, List, length, arith, [], ◌∷◌, Option}
+use Rattle.std.proofs.Common.{ℕ, ◌+◌, List, length, arith, ◌∷◌, Option}
 use Rattle.std.specs.List.{AllByRecursion, enumerate_from, flat_map, zip}
 use Rattle.birth_board.specs.declared.placing.Placing.{Placing}
 use Rattle.world_config.specs.Values.{ConfigValues}
@@ -24,6 +24,5 @@ parents_from P config steps from cells lives are each =
 pub zip_parents : (P : ℕ → Type 0) (births : List Delivery) (placings : List Placing)
     → AllByRecursion (λ (d : Delivery). P d.parent) births
     → AllByRecursion (λ (turn : Delivery × Placing). P turn.0.parent) (zip births placings)
-zip_parents P [] placings are = tt
-zip_parents P (b ∷ births) [] are = tt
 zip_parents P (b ∷ births) (p ∷ placings) are = (are.0, zip_parents P births placings are.1)
+zip_parents P _ _ are = tt

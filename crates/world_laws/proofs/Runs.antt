@@ -3,7 +3,7 @@ use Rattle.std.proofs.Common.{◌≡◌, ℕ, suc, ◌+◌, ◌<◌, ◌≤◌, 
 use Rattle.std.specs.Prelude.{slice_index_or}
 use Rattle.std.specs.List.{AllByRecursion, range_with_len}
 use Rattle.std.proofs.lemmas.List.{length-map}
-use Rattle.std.proofs.lemmas.List.FromFn.{length-range_with_len}
+use Rattle.std.proofs.lemmas.List.FromFn.{length-map-range_with_len, length-range_with_len}
 use Rattle.std.proofs.lemmas.Slice.Zip.{length-zip}
 use Rattle.birth_board.specs.declared.placing.Placing.{Placing}
 use Rattle.birth_board.proofs.PlacementLemmas.{placements_number}
@@ -140,9 +140,7 @@ module _ (laws : LifeLaws) (config : ConfigValues) (fit : IsConfig config) (n : 
       let lives = lives_after config w in
       let test = λ (cell : ℕ). (slice_index_or lives cell no_life).died in
       let run = life_at config (w.update + 1) w.cells in
-      let number : length lives ≡ length w.cells =
-      length-map (range_with_len 0 (length w.cells)) run
-      ∙ length-range_with_len 0 (length w.cells) in
+      let number = length-map-range_with_len run 0 (length w.cells) in
       omega (
         arith,
         filter_few test (range_with_len 0 (length lives)),

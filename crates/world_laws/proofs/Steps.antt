@@ -88,11 +88,12 @@ seen_newcomer : (scene : Scene) (link : Link) (organism : OrganismState) (cells 
 unfolding with_newcomer
 seen_newcomer scene link organism cells genomes e f =
     let new : Option Occupant = Some (record { id = link.id; organism = organism }) in
-    let ids : cells ≡ ids_of (slice_set scene.cells link.cell new) =
-    e ∙ sym (map-set id_of scene.cells link.cell new) in
-    let all : genomes ≡ map (λ (l : Link). l.genome) (scene.everyone ++ link ∷ []) =
-    f ∙ sym (map-append (λ (l : Link). l.genome) scene.everyone (link ∷ [])) in
-    cc
+    rw (
+      e,
+      f,
+      map-set id_of scene.cells link.cell new,
+      map-append (λ (l : Link). l.genome) scene.everyone (link ∷ []),
+    ) refl
 
 -- the line of a death of age
 pub one_death : (start : People) (stage : Stage) (births : ℕ) (scene : Scene) (cell id : ℕ)

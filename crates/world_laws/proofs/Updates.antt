@@ -34,12 +34,7 @@ without_others : (ids : List ℕ) (people : People) (id : ℕ)
 without_others [] people id h = refl
 without_others (x ∷ ids) people id h =
     without_others ids (slice_set people x None) id
-    (λ place e. h (place + 1) (at_next ids place id x e))
-    ∙ get_other people x id None (λ e. h 0 (ap Some (sym e)))
-  where
-    at_next : (ids : List ℕ) (place id x : ℕ) → slice_get ids place ≡ Some id
-        → slice_get (x ∷ ids) (place + 1) ≡ Some id
-    at_next ids place id x e = let n : place + 1 ≡ suc place = omega arith in rw n e
+    (λ place e. h (suc place) e) ∙ get_other people x id None (λ e. h 0 (ap Some (sym e)))
 
 -- who is forgotten was known before
 without_fewer : (ids : List ℕ) (people : People) (id : ℕ) (letters : List Letter)
@@ -184,8 +179,7 @@ module _ (size : ℕ) (start : People) (w : World) (lives : List CellLife)
       stays : (genomes : People) → Known genomes w.cells → Known genomes begun.cells
       stays genomes known cell o h =
           let a = folk.same cell o h in
-          ap (slice_get genomes) (sym a.2) ∙ known cell a.0 a.1
-          ∙ ap (λ (g : List Letter). Some (Some g)) a.3
+          rw (a.2, a.3) at (known cell a.0 a.1)
 
   -- the reader as an update begins is that between two updates
   pub begun_is : mirror start Quiet 0 begun ≡ between start (w.update + 1) w.cells

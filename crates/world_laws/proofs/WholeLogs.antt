@@ -52,9 +52,8 @@ kept_after config (suc n) =
 
 -- in empty cells nobody stands
 none_there : (count cell : ℕ) (o : Occupant) → Stands (replicate count None) cell o → ⊥
-none_there zero cell o e = absurd cc
-none_there (suc count) zero o e = absurd cc
 none_there (suc count) (suc cell) o e = none_there count cell o e
+none_there _ _ o e = absurd cc
 
 -- who stands in the founder's world
 pub only_founder : (config : ConfigValues) (cell : ℕ) (o : Occupant)
@@ -214,6 +213,5 @@ module _ (laws : LifeLaws) (config : ConfigValues) (fit : IsConfig config) where
       → replay_of (run_lines config n) ≡ residents_of_world (world_after config n)
   unfolding replay_of
   run_replays n =
-      ap (λ (s : Seen). residents_from 0 s.standing s.genomes) (run_tells n).seen
-      ∙ same_living 0 (world_after config n).cells (world_after config n).everyone
-      (run_after n).world.kept
+      rw (run_tells n).seen (same_living 0 (world_after config n).cells
+      (world_after config n).everyone (run_after n).world.kept)
