@@ -8,6 +8,7 @@ use native.Mathlib.Decide.{dec_lt}
 use Rattle.std.specs.List.{filter, list_any, cons_option}
 use Rattle.std.specs.Bool.{Decides}
 use Rattle.std.proofs.lemmas.Bool.Decides.{same_from_decides}
+use Rattle.std.proofs.lemmas.Grind.{common_steps}
 use Rattle.std.proofs.lemmas.List.{map_push}
 use Rattle.std.proofs.lemmas.Map.Views.{Contains-from_any, list_any-from_Contains}
 use Rattle.std.proofs.lemmas.Option.{slice_get_within, get_or_from_slice_get}
@@ -46,11 +47,12 @@ pub map-insert_key : {A B : Type 0} (eq : A → A → Bool) (same : B → B → 
     → map see (cond (list_any (eq key) keys) keys (keys ++ key ∷ []))
     ≡ cond (list_any (same (see key)) (map see keys)) (map see keys) (map see keys ++ see key ∷ [])
 map-insert_key eq same see alike keys key =
-    rw (list_any-map (eq key) (same (see key)) see (alike key) keys)
-    (elim (cases_Bool (list_any (same (see key)) (map see keys))) [
-      | inl known ↦ rw known
-      | inr new ↦ rw new (map_push see keys key)
-    ])
+    grind (
+      arith,
+      common_steps,
+      list_any-map (eq key) (same (see key)) see (alike key) keys,
+      map_push see keys key,
+    )
 
 module _ (one_list : OneList) where
   -- the members that this one is not
@@ -67,38 +69,28 @@ module _ (one_list : OneList) where
   list_any-others_of : (x y : Letters) → same_letters x y ≡ false → (zs : List Letters)
       → list_any (same_letters x) (others_of y zs) ≡ list_any (same_letters x) zs
   list_any-others_of x y differ [] = refl
-  list_any-others_of x y differ (z ∷ zs) = elim (cases_Bool (same_letters y z)) [
-    | inl is ↦
-        let other : same_letters x z ≡ false = rw (sym ((one_list y z).0 is)) differ in
-        rw (is, other) (list_any-others_of x y differ zs)
-    | inr isnt ↦ rw (isnt, list_any-others_of x y differ zs)
-  ]
+  list_any-others_of x y differ (z ∷ zs) =
+      grind (arith, common_steps, list_any-others_of x y differ zs, (one_list y z).0)
 
   -- one more behind the first and the others, by whether it is the first, and whether it is among
   -- the rest
   with_one-cases : (y : Letters) (zs : List Letters) (x : Letters)
       → with_genome (y ∷ others_of y zs) x ≡ y ∷ others_of y (with_genome zs x)
   with_one-cases y zs x =
-      let put = filter-append (λ z. not (same_letters y z)) zs (x ∷ []) in
-      elim (cases_Bool (same_letters x y)) [
-        | inl is ↦ elim (cases_Bool (list_any (same_letters x) zs)) [
-          | inl found ↦ rw (is, found)
-          | inr new ↦ rw (is, new, put, same-comm y x ∙ is, append-nil (others_of y zs))
-        ]
-        | inr isnt ↦ rw (isnt, list_any-others_of x y isnt zs)
-            (elim (cases_Bool (list_any (same_letters x) zs)) [
-              | inl found ↦ rw found
-              | inr new ↦ rw (new, put, same-comm y x ∙ isnt)
-            ])
-      ]
+      grind (
+        arith,
+        common_steps,
+        filter-append (λ z. not (same_letters y z)) zs (x ∷ []),
+        same-comm y x,
+        append-nil (others_of y zs),
+        list_any-others_of x y,
+      )
 
   -- the different ones of some genomes with one more, which may be one of them
   different_of_push : (xs : List Letters) (x : Letters)
       → different_of (xs ++ x ∷ []) ≡ with_genome (different_of xs) x
   different_of_push [] x = refl
-  different_of_push (y ∷ ys) x =
-      ap (λ zs. y ∷ others_of y zs) (different_of_push ys x)
-      ∙ sym (with_one-cases y (different_of ys) x)
+  different_of_push (y ∷ ys) x = rw (different_of_push ys x, with_one-cases y (different_of ys) x)
 
   -- the genotypes of a history with one more call
   pub genotypes_of_push : (history : List Entry) (last : Entry)
@@ -111,7 +103,7 @@ module _ (one_list : OneList) where
           (genomes_of history ++ cons_option (interned_genome call) [])
           ≡ with_call (genotypes_of history) call
       by (Interned genome) = different_of_push (genomes_of history) genome
-      by Refused = ap different_of (append-nil (genomes_of history))
+      by Refused = rw (append-nil (genomes_of history))
 
   -- genotypes with one genome more begin with these genotypes
   with_genome-begins : (genotypes : List Letters) (genome : Letters)
@@ -125,28 +117,21 @@ module _ (one_list : OneList) where
   -- a prefix of a prefix is a prefix
   IsPrefix-trans : (xs ys zs : List Letters) → IsPrefix xs ys → IsPrefix ys zs → IsPrefix xs zs
   IsPrefix-trans xs ys zs a b =
-      (a.0 ++ b.0, sym (append_assoc xs a.0 b.0) ∙ (ap (λ l. l ++ b.0) a.1 ∙ b.1))
+      (a.0 ++ b.0, rw (← append_assoc xs a.0 b.0, a.1) b.1)
 
   -- the different ones of some genomes come first where more genomes come behind
   different_of-longer : (xs ys : List Letters)
       → IsPrefix (different_of xs) (different_of (xs ++ ys))
-  different_of-longer xs [] =
-      ([], append-nil (different_of xs) ∙ ap different_of (sym (append-nil xs)))
-  different_of-longer xs (y ∷ ys) =
-      let first = subst (IsPrefix (different_of xs)) (sym (different_of_push xs y))
-      (with_genome-begins (different_of xs) y) in
-      let then = different_of-longer (xs ++ y ∷ []) ys in
-      IsPrefix-trans (different_of xs) (different_of (xs ++ y ∷ [])) (different_of (xs ++ y ∷ ys))
-      first
-      (subst (λ l. IsPrefix (different_of (xs ++ y ∷ [])) (different_of l))
-      (append_assoc xs (y ∷ []) ys) then)
+  different_of-longer xs [] = ([], simp append-nil)
+  different_of-longer xs (y ∷ ys) = rw (← append_assoc xs (y ∷ []) ys)
+      (IsPrefix-trans (different_of xs) (different_of (xs ++ y ∷ [])) _
+      (rw (different_of_push xs y) (with_genome-begins (different_of xs) y))
+      (different_of-longer (xs ++ y ∷ []) ys))
 
   -- the different ones of a front of some genomes come first
   pub different_of-begins : (first genomes : List Letters) → IsPrefix first genomes
       → IsPrefix (different_of first) (different_of genomes)
-  different_of-begins first genomes p =
-      subst (λ l. IsPrefix (different_of first) (different_of l)) p.1
-      (different_of-longer first p.0)
+  different_of-begins first genomes p = rw (← p.1) (different_of-longer first p.0)
 
   -- numbers stay as a history goes on
   pub genotypes_of-begins : (early history : List Entry) → IsPrefix early history
@@ -154,8 +139,7 @@ module _ (one_list : OneList) where
   genotypes_of-begins early history p =
       different_of-begins (genomes_of early) (genomes_of history) (
         genomes_of p.0,
-        sym (filter_map-append (λ (one : Entry). interned_genome one.call) early p.0)
-            ∙ ap genomes_of p.1,
+        rw (← filter_map-append (λ (one : Entry). interned_genome one.call) early p.0, p.1),
       )
 
   -- the test of two lists of letters is an equivalence
@@ -183,12 +167,10 @@ module _ (one_list : OneList) where
   -- the different ones of some genomes are apart still where more genomes come behind
   AreApart-longer : (xs ys : List Letters) → AreApart (different_of xs)
       → AreApart (different_of (xs ++ ys))
-  AreApart-longer xs [] apart = subst (λ l. AreApart (different_of l)) (sym (append-nil xs)) apart
-  AreApart-longer xs (y ∷ ys) apart =
-      subst (λ l. AreApart (different_of l)) (append_assoc xs (y ∷ []) ys)
+  AreApart-longer xs [] apart = rw (append-nil xs) apart
+  AreApart-longer xs (y ∷ ys) apart = rw (← append_assoc xs (y ∷ []) ys)
       (AreApart-longer (xs ++ y ∷ []) ys
-      (subst AreApart (sym (different_of_push xs y))
-      (AreApart-with_genome (different_of xs) y apart)))
+      (rw (different_of_push xs y) (AreApart-with_genome (different_of xs) y apart)))
 
   -- no two of the different ones of some genomes are equal
   AreApart-different_of : (xs : List Letters) → AreApart (different_of xs)
@@ -198,11 +180,8 @@ module _ (one_list : OneList) where
   list_any-different_of : (x : Letters) (ys : List Letters)
       → list_any (same_letters x) (different_of ys) ≡ list_any (same_letters x) ys
   list_any-different_of x [] = refl
-  list_any-different_of x (y ∷ ys) = elim (cases_Bool (same_letters x y)) [
-    | inl is ↦ rw is
-    | inr isnt ↦ rw (isnt, list_any-others_of x y isnt (different_of ys))
-        (list_any-different_of x ys)
-  ]
+  list_any-different_of x (y ∷ ys) =
+      grind (arith, common_steps, list_any-others_of x y, list_any-different_of x ys)
 
   -- a member of one list is a member of another, if the test finds it in both or in neither
   Contains-by : (xs ys : List Letters) (x : Letters)
@@ -285,11 +264,11 @@ module _ (one_list : OneList) where
   -- what has a place in a prefix has the same place in the whole
   slice_get-begins : (xs ys : List Letters) (i : ℕ) (x : Letters) → IsPrefix xs ys
       → slice_get xs i ≡ Some x → slice_get ys i ≡ Some x
-  slice_get-begins xs ys i x p e = subst (λ l. slice_get l i ≡ Some x) p.1 (front xs i e)
+  slice_get-begins xs ys i x p e = rw (← p.1) (front xs i e)
     where
       front : (xs : List Letters) (i : ℕ) → slice_get xs i ≡ Some x
           → slice_get (xs ++ p.0) i ≡ Some x
-      front [] i e = absurd (grind (arith, e))
+      front [] i e = absurd cc
       front (z ∷ zs) zero e = e
       front (z ∷ zs) (suc i) e = front zs i e
 
@@ -304,16 +283,13 @@ module _ (one_list : OneList) where
           → slice_get (cond b known (known ++ new ∷ [])) number ≡ Some new
           → length (cond b known (known ++ new ∷ []))
           ≡ cond (nat_lt number (length known)) (length known) (number + 1)
-      by true e at = ap (λ b. cond b (length known) (number + 1))
-          (sym (lt-ltb number (length known) (slice_get_within known number new at)))
+      by true e at = rw (lt-ltb number (length known) (slice_get_within known number new at))
       by false e at = dite (dec_lt number (length known))
           (λ lt. absurd (true≢false
           (sym (list_any-from_Contains same_letters-equivalence new known
           (subst (Contains known) (front at lt) (Contains-get_or known number new lt))) ∙ e)))
-          (λ ge. (let w = slice_get_within (known ++ new ∷ []) number new at in let l =
-          length-append known (new ∷ []) in let same : length (known ++ new ∷ []) ≡ number + 1 =
-          omega arith in same) ∙ ap (λ b. cond b (length known) (number + 1))
-          (sym (le-ltb number (length known) (omega arith))))
+          (λ ge. rw (le-ltb number (length known) (omega arith)) (let w =
+          slice_get_within (known ++ new ∷ []) number new at in omega (arith, length-append known (new ∷ []))))
         where
           slice_get-front : (xs : List Letters) (i : ℕ) → i < length xs
               → slice_get (xs ++ new ∷ []) i ≡ slice_get xs i
@@ -342,9 +318,8 @@ module _ (one_list : OneList) where
       → HasEachOnce bank genomes → slice_get bank number ≡ Some genome
       → slice_get bank other ≡ Some twin → (number ≡ other) ↔ (genome ≡ twin)
   one_number bank genomes number other genome twin has a b = (
-    (λ (is : number ≡ other). let e : Some genome ≡ Some twin =
-        sym a ∙ (ap (slice_get bank) is ∙ b) in cc),
-    (λ (is : genome ≡ twin). one_place bank has.once number other genome a (b ∙ ap Some (sym is))),
+    (λ (is : number ≡ other). cc),
+    (λ (is : genome ≡ twin). one_place bank has.once number other genome a (cc)),
   )
 
   -- two prefixes of one history number genomes alike
