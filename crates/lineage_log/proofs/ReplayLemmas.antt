@@ -1,6 +1,6 @@
 -- What a reader has kept of a log is who lives at its end.
-use Rattle.std.proofs.Common.{◌≡◌, ℕ, zero, suc, mul-le-mul, ◌+◌, ◌≤◌, Bool, true, false, List, [], ◌∷◌, ◌++◌, Option, Some, None, Result, Ok, Err, length, refl, sym, ap, subst, ◌∙◌, arith, inl, inr}
-use Rattle.std.specs.Prelude.{◌==◌, ◌&&◌, ◌*◌, if◌then◌else◌, nat_lt, slice_get, slice_set, unwrap_or, option_map, option_and_then, IsSome}
+use Rattle.std.proofs.Common.{◌≡◌, ℕ, zero, suc, mul-le-mul, ◌+◌, ◌≤◌, Bool, true, false, List, [], ◌∷◌, ◌++◌, Option, Some, None, Result, Ok, Err, length, refl, sym, subst, ◌∙◌, arith, inl, inr}
+use Rattle.std.specs.Prelude.{◌==◌, ◌&&◌, ◌*◌, if◌then◌else◌, nat_lt, slice_get, slice_set, unwrap_or, option_and_then, IsSome}
 use Rattle.std.proofs.lemmas.Bool.{and_parts, eqb-true}
 use Rattle.std.proofs.lemmas.List.{length-append, length-replicate, length-set}
 use Rattle.std.proofs.lemmas.Option.{slice_get-map}
@@ -16,7 +16,7 @@ use Rattle.lineage_log.specs.Slots.{holds, taken}
 use Rattle.lineage_log.specs.Reader.{Reader, may_die, may_be_born, is_quiet, parent_in, reader_with_newcomer, reader_with_death}
 use Rattle.lineage_log.specs.Order.{LogPlace, Before, Within, After, within_if, opened, at_next_update, may_happen, with_child, with_parent, told_start, told_death, told_birth, told_injected, told_cleared, told_rate, told_count, told_end, told, told_all}
 use Rattle.lineage_log.specs.LogGrammar.{IsGoodLog}
-use Rattle.lineage_log.specs.Replay.{Seen, born_in, seen_on, seen_all, Resident, residents_from, replay_of}
+use Rattle.lineage_log.specs.Replay.{Seen, born_in, seen_on, seen_all, residents_from, replay_of}
 use Rattle.lineage_log.specs.Residents.{EachIsKept, kept_genomes}
 use Rattle.lineage_log.proofs.LogLaws.{went_on, place_is}
 use Rattle.lineage_log.proofs.StandingLemmas.{get_written, get_pushed, get_before, get_last, empty, none_there, People, length_without, kept_before, IsTidy, tidy_death, tidy_newcomer, tidy_renewed}
@@ -41,11 +41,9 @@ AgreesAt (After r) s = Agrees r s
 -- a cell that holds something is found with exactly that
 holds_is : (found : Option (Option ℕ)) (slot : Option ℕ) → holds found slot ≡ true
     → found ≡ Some slot
-holds_is None slot is = absurd cc
 holds_is (Some None) None is = refl
-holds_is (Some None) (Some b) is = absurd cc
-holds_is (Some (Some a)) None is = absurd cc
-holds_is (Some (Some a)) (Some b) is = ap (λ (n : ℕ). Some (Some n)) (eqb-true a b is)
+holds_is (Some (Some a)) (Some b) is = rw (eqb-true a b is)
+holds_is _ _ is = absurd cc
 
 -- a place that a line's test gives agrees, if its reader agrees where the test holds
 within_gives : (test : Bool) (r : Reader) (p : LogPlace) (s : Seen) → within_if test r ≡ Ok p
@@ -64,7 +62,7 @@ death_agrees : (r : Reader) (s : Seen) (stage : Stage) (cell id : ℕ) → Agree
     → Agrees (reader_with_death r stage cell id)
     (record s { standing = slice_set s.standing cell None })
 death_agrees r s stage cell id agrees stood = record {
-  same = ap (λ (slots : List (Option ℕ)). slice_set slots cell None) agrees.same;
+  same = rw agrees.same;
   as_many = agrees.as_many;
   kept = agrees.kept;
   tidy = tidy_death r.standing r.people r.leaving agrees.tidy cell id
@@ -92,11 +90,8 @@ newcomer_agrees : (r : Reader) (s : Seen) (stage : Stage) (id cell : ℕ) (over 
     → Agrees (reader_with_newcomer r stage cell over genome births)
     (record { standing = slice_set s.standing cell (Some id); genomes = s.genomes ++ genome ∷ [] })
 newcomer_agrees r s stage id cell over genome births agrees next stood = record {
-  same = ap (λ (n : ℕ). slice_set r.standing cell (Some n))
-      (sym (eqb-true id (length r.people) next))
-      ∙ ap (λ (slots : List (Option ℕ)). slice_set slots cell (Some id)) agrees.same;
-  as_many = length-append r.people (Some genome ∷ []) ∙ ap (λ n. n + 1) agrees.as_many
-      ∙ sym (length-append s.genomes (genome ∷ []));
+  same = rw (← eqb-true id (length r.people) next, agrees.same);
+  as_many = simp (length-append, agrees.as_many);
   kept = newcomer_kept r s genome agrees;
   tidy = tidy_newcomer r.standing r.people r.leaving agrees.tidy cell over genome
       (holds_is (slice_get r.standing cell) over stood);
@@ -119,7 +114,7 @@ count_agrees r s agrees = record {
 found_is : (found : Option (Option (List Letter))) (letters : List Letter)
     → option_and_then (λ f. f) found ≡ Some letters → found ≡ Some (Some letters)
 found_is None letters is = absurd cc
-found_is (Some f) letters is = ap (λ (o : Option (List Letter)). Some o) is
+found_is (Some f) letters is = rw is
 
 -- so is a parent's genome that is found only where the parent is old enough
 parent_is : (older : Bool) (found : Option (Option (List Letter))) (letters : List Letter)
@@ -272,11 +267,7 @@ first_kept genome (suc id) letters is = absurd cc
 first_tidy : (cells cell : ℕ) (genome : List Letter)
     → IsTidy (first_cells cells cell) (Some genome ∷ []) []
 first_tidy cells cell genome = record {
-  present = λ c i is. (
-    genome,
-    subst (λ (n : ℕ). slice_get (Some genome ∷ []) n ≡ Some (Some genome))
-        (first_there cells cell c i is).1 refl,
-  );
+  present = λ c i is. (genome, rw (← (first_there cells cell c i is).1));
   staying = λ c i is. tt;
   once = λ a b i at_a at_b. sym (first_there cells cell a i at_a).0
       ∙ (first_there cells cell b i at_b).0;
@@ -306,11 +297,7 @@ genome_is : (people : People) (genomes : List (List Letter)) (id : ℕ) (letters
     → slice_get people id ≡ Some (Some letters) → slice_get genomes id ≡ Some letters
     → unwrap_or (slice_get (kept_genomes people) id) [] ≡ unwrap_or (slice_get genomes id) []
 genome_is people genomes id letters kept seen =
-    ap (λ (o : Option (List Letter)). unwrap_or o [])
-    (slice_get-map (λ (found : Option (List Letter)). unwrap_or found []) people id)
-    ∙ ap (λ (o : Option (Option (List Letter))).
-    unwrap_or (option_map (λ (found : Option (List Letter)). unwrap_or found []) o) []) kept
-    ∙ sym (ap (λ (o : Option (List Letter)). unwrap_or o []) seen)
+    rw (slice_get-map (λ (found : Option (List Letter)). unwrap_or found []) people id, kept, seen)
 
 -- who resides has the same genome in both lists, if each one's is kept and seen
 residents_same : (cell : ℕ) (slots : List (Option ℕ)) (people : People)
@@ -323,12 +310,10 @@ residents_same cell (None ∷ slots) people genomes each =
     residents_same (suc cell) slots people genomes (λ k id is. each (suc k) id is)
 residents_same cell (Some id ∷ slots) people genomes each =
     let found = each 0 id refl in
-    let rest = residents_same (suc cell) slots people genomes (λ k i is. each (suc k) i is) in
-    ap (λ (g : List Letter). record { cell = cell; id = id; genome = g }
-    ∷ residents_from (suc cell) slots (kept_genomes people))
-    (genome_is people genomes id found.0 found.1 found.2)
-    ∙ ap (λ (others : List Resident).
-    record { cell = cell; id = id; genome = unwrap_or (slice_get genomes id) [] } ∷ others) rest
+    rw (
+      genome_is people genomes id found.0 found.1 found.2,
+      residents_same (suc cell) slots people genomes (λ k i is. each (suc k) i is),
+    )
 
 -- ---- a whole log
 
@@ -352,15 +337,13 @@ agreed : (lines : List Line) (r : Reader) → Agrees r (seen_all nobody lines) �
 unfolding replay_of
 agreed lines r agrees =
     let s = seen_all nobody lines in
-    let each = residents_same 0 r.standing r.people s.genomes
-    (λ k id is. let found = agrees.tidy.present k id is in
-    (found.0, found.1, agrees.kept id found.0 found.1)) in
     record {
       kept = λ cell id is. let found = agrees.tidy.present cell id is in
           kept_is (slice_get r.people id) found.0 found.1;
       few = agrees.few;
-      living =
-          each ∙ ap (λ (slots : List (Option ℕ)). residents_from 0 slots s.genomes) agrees.same;
+      living = rw (← agrees.same) (residents_same 0 r.standing r.people s.genomes (λ k id is.
+          let found = agrees.tidy.present k id is in
+          (found.0, found.1, agrees.kept id found.0 found.1)));
     }
 
 -- so is the reader of a whole log that begins with a world of at most 256 by 256 cells
@@ -383,13 +366,6 @@ start_leaves version width height cell genome lines r w h is =
 -- so is the reader of a good log that is told to its end
 pub leaves : (lines : List Line) (r : Reader) → IsGoodLog lines
     → told_all Before lines ≡ Ok (After r) → Leaves lines r
-leaves [] r good is = absurd cc
 leaves (Start version width height cell genome ∷ lines) r good is =
     start_leaves version width height cell genome lines r good.forms.0.1.1 good.forms.0.2.1 is
-leaves (Death id update cell ∷ lines) r good is = absurd cc
-leaves (Birth id parent update cell over birth ∷ lines) r good is = absurd cc
-leaves (Injected id update cell over genome ∷ lines) r good is = absurd cc
-leaves (Cleared id update cell ∷ lines) r good is = absurd cc
-leaves (Rate update name ppm ∷ lines) r good is = absurd cc
-leaves (Count stats ∷ lines) r good is = absurd cc
-leaves (End updates ∷ lines) r good is = absurd cc
+leaves _ r good is = absurd cc
