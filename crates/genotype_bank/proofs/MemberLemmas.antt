@@ -1,5 +1,5 @@
 -- Members of what a test with a value keeps.
-use Rattle.std.proofs.Common.{ap, ◌≡◌, ◌⊎◌, zero, suc, ◌<◌, List, [], ◌∷◌, length, get_or, Contains, Option, None, Some, refl, sym, subst, ◌∙◌, inl, inr, ⊎_elim, arith, ℕ}
+use Rattle.std.proofs.Common.{ap, ◌≡◌, ◌⊎◌, zero, suc, ◌<◌, List, [], ◌∷◌, Contains, Option, None, Some, refl, subst, ◌∙◌, inl, inr, ⊎_elim, arith}
 use Rattle.std.specs.List.{filter_map, cons_option}
 use Rattle.std.specs.List.Sorted.{IsPermutation}
 use Rattle.std.proofs.lemmas.List.Sorted.{Contains-permutation}
@@ -13,11 +13,8 @@ module _ {X : Type 0} where
   -- a member of a list is its first item or a member of the rest
   pub Contains-cons_cases : (y : X) (xs : List X) (x : X) → Contains (y ∷ xs) x
       → (y ≡ x) ⊎ Contains xs x
-  Contains-cons_cases y xs x h = by h.0 h.1 h.2
-    where
-      by : (k : ℕ) → k < length (y ∷ xs) → get_or (y ∷ xs) k x ≡ x → (y ≡ x) ⊎ Contains xs x
-      by zero l e = inl e
-      by (suc k) l e = inr (k, (omega arith), e)
+  Contains-cons_cases y xs x (zero, l, e) = inl e
+  Contains-cons_cases y xs x (suc k, l, e) = inr (k, omega arith, e)
 
   -- a member of the rest is a member of the list
   pub Contains-cons : (y : X) (xs : List X) (x : X) → Contains xs x → Contains (y ∷ xs) x
@@ -33,8 +30,7 @@ module _ {X Y : Type 0} (f : X → Option Y) where
       → Contains (filter_map f xs) y
   Contains-filter_map [] x y h e = absurd (Contains-nil x h)
   Contains-filter_map (z ∷ xs) x y h e = ⊎_elim
-      (λ (i : z ≡ x). subst (λ (o : Option Y). Contains (cons_option o (filter_map f xs)) y)
-      (sym (ap f i ∙ e)) (Contains-here y (filter_map f xs) y refl))
+      (λ (i : z ≡ x). rw (i, e) (Contains-here y (filter_map f xs) y refl))
       (λ (r : Contains xs x). by (f z) (Contains-filter_map xs x y r e))
       (Contains-cons_cases z xs x h)
     where

@@ -57,12 +57,8 @@ letters-last : (most word : ℕ) → (most ≡ 0 → ⊥) → (word ≡ 0 → �
     ≡ letters_within (most - 1) (word / 27) ++ option_to_list (letter_at (word % 27 - 1))
 letters-last zero word some _ = absurd (some refl)
 letters-last (suc most) word _ some =
-    let less : most ≡ suc most - 1 = omega arith in
-    letters-step most word
-    ∙ ap (λ b. cond b []
-    (letters_within most (word / 27) ++ option_to_list (letter_at (word % 27 - 1))))
-    (ne_eqb word 0 some)
-    ∙ ap (λ m. letters_within m (word / 27) ++ option_to_list (letter_at (word % 27 - 1))) less
+    let less : suc most - 1 ≡ most = omega arith in
+    rw (letters-step most word, ne_eqb word 0 some, less)
 
 -- which is pushed behind the others
 pub letters-pushed : (most word : ℕ) (before : List Letter) (letter : Letter) → (most ≡ 0 → ⊥)
@@ -70,10 +66,11 @@ pub letters-pushed : (most word : ℕ) (before : List Letter) (letter : Letter) 
     → (before ++ letters_within (most - 1) (word / 27)) ++ letter ∷ []
     ≡ before ++ letters_within most word
 letters-pushed most word before letter asked some is =
-    append_assoc before (letters_within (most - 1) (word / 27)) (letter ∷ [])
-    ∙ ap (λ ls. before ++ ls)
-    (ap (λ o. letters_within (most - 1) (word / 27) ++ option_to_list o) (sym is)
-    ∙ sym (letters-last most word asked some))
+    rw (
+      append_assoc before (letters_within (most - 1) (word / 27)) (letter ∷ []),
+      letters-last most word asked some,
+      is,
+    )
 
 -- a word of few letters has no more where more are asked for
 letters-few : (most word : ℕ) → word < 27 ^ most
@@ -81,12 +78,11 @@ letters-few : (most word : ℕ) → word < 27 ^ most
 unfolding letters_within
 letters-few zero word small =
     let none : (word == 0) ≡ true = eq-eqb word 0 (omega (arith, small)) in
-    ap (λ b. cond b [] ([] ++ option_to_list (letter_at (word % 27 - 1)))) none
+    rw none
 letters-few (suc most) word small =
     let high : word / 27 < 27 ^ most =
     div_below word 27 (27 ^ most) (omega arith) (omega (arith, small, pow-suc 27 most)) in
-    ap (λ ls. cond (word == 0) [] (ls ++ option_to_list (letter_at (word % 27 - 1))))
-    (letters-few most (word / 27) high)
+    rw (letters-few most (word / 27) high)
 
 pub ruleset letters_of_a_word = (letters-no_more, letters-empty, letters-pushed)
 
@@ -95,15 +91,13 @@ letters-put : (most word digit : ℕ) → word < 27 ^ most → 0 < digit → dig
     → letters_within (suc most) (word * 27 + digit)
     ≡ letters_within (suc most) word ++ option_to_list (letter_at (digit - 1))
 letters-put most word digit small some below =
-    letters-step most (word * 27 + digit)
-    ∙ ap (λ b. cond b [] (letters_within most ((word * 27 + digit) / 27)
-    ++ option_to_list (letter_at ((word * 27 + digit) % 27 - 1))))
-    (ne_eqb (word * 27 + digit) 0 (λ same. omega (arith, same, some)))
-    ∙ ap (λ w. letters_within most w
-    ++ option_to_list (letter_at ((word * 27 + digit) % 27 - 1))) (div-mul-add word 27 digit below)
-    ∙ ap (λ d. letters_within most word ++ option_to_list (letter_at (d - 1)))
-    (mod-mul-add word 27 digit below)
-    ∙ ap (λ ls. ls ++ option_to_list (letter_at (digit - 1))) (sym (letters-few most word small))
+    rw (
+      letters-step most (word * 27 + digit),
+      ne_eqb (word * 27 + digit) 0 (λ same. omega (arith, same, some)),
+      div-mul-add word 27 digit below,
+      mod-mul-add word 27 digit below,
+      letters-few most word small,
+    )
 
 -- a letter more stands behind the others
 letters-more : (most word : ℕ) (letter : Letter) → word < 27 ^ most
@@ -112,23 +106,22 @@ letters-more : (most word : ℕ) (letter : Letter) → word < 27 ^ most
 letters-more most word letter small =
     let row = (has_row letter).row in
     let lowered : index_of letter + 1 - 1 ≡ index_of letter = omega arith in
-    letters-put most word (index_of letter + 1) small (omega arith) (omega (arith, row))
-    ∙ ap (λ i. letters_within (suc most) word ++ option_to_list (letter_at i)) lowered
-    ∙ ap (λ o. letters_within (suc most) word ++ option_to_list o) (has_row letter).found
+    rw (
+      letters-put most word (index_of letter + 1) small (omega arith) (omega (arith, row)),
+      lowered,
+      (has_row letter).found,
+    )
 
 -- the letter of a word with one letter
 letters-one : (letter : Letter) → letters_within 13 (digit_of letter) ≡ letter ∷ []
 letters-one letter =
     let as_more : index_of letter + 1 ≡ 0 * 27 + (index_of letter + 1) = omega arith in
-    ap (letters_within 13) as_more
-    ∙ letters-more 12 0 letter (omega arith)
-    ∙ ap (λ ls. ls ++ letter ∷ []) (letters-none 13)
+    rw (as_more, letters-more 12 0 letter (omega arith), letters-none 13)
 
 -- the letters of the last word stand behind those of the others
 unpacked-last : (full : List ℕ) (last : ℕ)
     → unpacked (full ++ last ∷ []) ≡ unpacked full ++ letters_within 13 last
-unpacked-last full last = flat_map-append (letters_within 13) full (last ∷ [])
-    ∙ ap (λ ls. unpacked full ++ ls) (append-nil (letters_within 13 last))
+unpacked-last full last = simp (flat_map-append, append-nil)
 
 -- a letter more is unpacked behind the others
 unpacked-more : (full : List ℕ) (last : ℕ) (letter : Letter)
@@ -142,12 +135,13 @@ unpacked-more full last letter = by (nat_lt last full_word) refl where
       ≡ unpacked (full ++ last ∷ []) ++ letter ∷ []
   by true is =
       let small : last < 27 ^ 12 = ltb-true last full_word is in
-      unpacked-last full (last * 27 + digit_of letter)
-      ∙ ap (λ ls. unpacked full ++ ls) (letters-more 12 last letter small)
-      ∙ sym (append_assoc (unpacked full) (letters_within 13 last) (letter ∷ []))
-      ∙ ap (λ ls. ls ++ letter ∷ []) (sym (unpacked-last full last))
-  by false _ = unpacked-last (full ++ last ∷ []) (digit_of letter)
-      ∙ ap (λ ls. unpacked (full ++ last ∷ []) ++ ls) (letters-one letter)
+      rw (
+        unpacked-last full (last * 27 + digit_of letter),
+        letters-more 12 last letter small,
+        unpacked-last full last,
+        append_assoc (unpacked full) (letters_within 13 last) (letter ∷ []),
+      )
+  by false _ = rw (unpacked-last (full ++ last ∷ []) (digit_of letter), letters-one letter)
 
 -- letters are unpacked behind the others
 unpacked-all : (so_far : Packing) (letters : List Letter)
@@ -155,19 +149,20 @@ unpacked-all : (so_far : Packing) (letters : List Letter)
     ≡ unpacked (words_in so_far) ++ letters
 unpacked-all so_far [] = sym (append-nil (unpacked (words_in so_far)))
 unpacked-all so_far (letter ∷ letters) =
-    unpacked-all (with_letter so_far letter) letters
-    ∙ ap (λ first. first ++ letters) (unpacked-more so_far.full so_far.last letter)
-    ∙ append_assoc (unpacked (words_in so_far)) (letter ∷ []) letters
+    rw (
+      unpacked-all (with_letter so_far letter) letters,
+      unpacked-more so_far.full so_far.last letter,
+      append_assoc (unpacked (words_in so_far)) (letter ∷ []) letters,
+    )
 
 -- packed letters are unpacked as they were
 unpacked-packed : (letters : List Letter) → unpacked (packed letters) ≡ letters
-unpacked-packed letters = unpacked-all (packing [] 0) letters
-    ∙ ap (λ first. (first ++ []) ++ letters) (letters-none 13)
+unpacked-packed letters = rw (unpacked-all (packing [] 0) letters, letters-none 13)
 
 -- the words of letters have these letters
 pub has_letters : (letters : List Letter) (words : List ℕ) → words ≡ packed letters
     → unpacked words ≡ letters
-has_letters letters words are = ap unpacked are ∙ unpacked-packed letters
+has_letters letters words are = rw (are, unpacked-packed letters)
 
 -- and are the one form of them
 pub in_one_form : (letters : List Letter) (words : List ℕ) → words ≡ packed letters
@@ -179,21 +174,17 @@ module _ (letters : List Letter) (at : ℕ) (d : Letter) (full : List ℕ) (last
   -- the letters up to the next one
   next_packing : with_letter (packing full last) (get_or letters at d)
       ≡ packing_of (take (at + 1) letters)
-  next_packing = ap (λ begun. with_letter begun (get_or letters at d)) so_far
-      ∙ sym (fold_more with_letter (packing [] 0) letters at d within)
+  next_packing = rw (fold_more with_letter (packing [] 0) letters at d within)
+      (ap (λ begun. with_letter begun (get_or letters at d)) so_far)
 
   -- the last word has room for the next letter
   pub packing-room : last < full_word
       → packing full (last * 27 + digit_of (get_or letters at d))
       ≡ packing_of (take (at + 1) letters)
-  packing-room room = ap (λ b. cond b (packing full (last * 27 + digit_of (get_or letters at d)))
-      (packing (full ++ last ∷ []) (digit_of (get_or letters at d))))
-      (sym (lt-ltb last full_word room)) ∙ next_packing
+  packing-room room = rw (lt-ltb last full_word room) at next_packing
 
   -- the next letter begins a word
   pub packing-full : full_word ≤ last
       → packing (full ++ last ∷ []) (digit_of (get_or letters at d))
       ≡ packing_of (take (at + 1) letters)
-  packing-full none = ap (λ b. cond b (packing full (last * 27 + digit_of (get_or letters at d)))
-      (packing (full ++ last ∷ []) (digit_of (get_or letters at d))))
-      (sym (le-ltb last full_word none)) ∙ next_packing
+  packing-full none = rw (le-ltb last full_word none) at next_packing

@@ -1,5 +1,5 @@
 -- Facts of all views, after one has changed or come.
-use Rattle.std.proofs.Common.{true, ◌≡◌, ◌≢◌, ◌⊎◌, ℕ, zero, suc, ◌+◌, ◌<◌, ◌≤◌, List, [], ◌∷◌, ◌++◌, length, set, refl, sym, ap, ◌∙◌, subst, inl, inr, ⊎_elim, arith}
+use Rattle.std.proofs.Common.{◌≡◌, ◌≢◌, ◌⊎◌, ℕ, zero, suc, ◌+◌, ◌<◌, ◌≤◌, List, [], ◌∷◌, ◌++◌, length, set, refl, sym, ap, ◌∙◌, subst, inl, inr, ⊎_elim, arith}
 use mathlib.Core.Option.{some, some-ne-none, some-injective}
 use mathlib.Core.Logic.{dite}
 use native.Mathlib.Decide.{ℕ_discrete}
@@ -7,14 +7,13 @@ use lib.ListN.{get_elem?}
 use Rattle.atomic_table.proofs.Lists.{at_set, at_snoc, set_here, set_else, at_longer}
 use Rattle.genotype_bank.specs.declared.view.View.{View}
 use Rattle.genotype_bank.specs.declared.view.Entry.{Entry}
-use Rattle.genotype_bank.specs.BankHistory.{is_among}
 use Rattle.genotype_bank.specs.Views.{total, seat_share, AtMostOne, SomeSeat, NumbersArePlaces, AreSeats, Carries}
 
 -- a place that has something is in the list
 pub within : {A : Type 0} (l : List A) (i : ℕ) (a : A) → get_elem? l i ≡ some a → i < length l
-within [] i a e = absurd (some-ne-none a (sym e))
+within [] i a e = absurd cc
 within (x ∷ xs) zero a e = omega arith
-within (x ∷ xs) (suc i) a e = let h = within xs i a e in omega arith
+within (x ∷ xs) (suc i) a e = omega (arith, within xs i a e)
 
 -- a place has one item
 pub one_there : {A : Type 0} (l : List A) (i : ℕ) (a b : A) → get_elem? l i ≡ some a
@@ -63,7 +62,7 @@ each_snoc P views w others mine j u e = elim (at_snoc views w u j e) [
 pub at_end : {A : Type 0} (l : List A) (a b : A) (j : ℕ) → get_elem? (l ++ a ∷ []) j ≡ some b
     → (get_elem? l j ≡ some b) ⊎ ((j ≡ length l) × (a ≡ b))
 at_end [] a b zero e = inr (refl, some-injective a b e)
-at_end [] a b (suc j) e = absurd (some-ne-none b (sym e))
+at_end [] a b (suc j) e = absurd cc
 at_end (x ∷ xs) a b zero e = inl e
 at_end (x ∷ xs) a b (suc j) e = ⊎_elim (λ t. inl t) (λ t. inr (ap suc t.0, t.1)) (at_end xs a b j e)
 
@@ -112,7 +111,7 @@ some_set P views id v w at on (j, u, e, p) =
       id,
       w,
       set_here views id w (within views id v at),
-      on (subst P (one_there views id u v (subst (λ k. get_elem? views k ≡ some u) is e) at) p),
+      on (subst P (one_there views id u v (rw is at e) at) p),
     ))
     (λ ne. (j, u, set_else views id j w ne ∙ e, p))
 
@@ -134,10 +133,9 @@ placed_set views id v w at alive new placed j x n e c =
     dite (ℕ_discrete n id)
     (λ here. (
       w,
-      subst (λ k. get_elem? (set views id w) k ≡ some w) (sym here) mine,
+      rw here mine,
       λ pos. sym is
-          ∙ p.2 (subst (λ (u : View). 0 < u.share)
-          (one_there views id v p.0 at (subst (λ k. get_elem? views k ≡ some p.0) here p.1))
+          ∙ p.2 (subst (λ (u : View). 0 < u.share) (one_there views id v p.0 at (rw here at p.1))
           (alive pos)),
     ))
     (λ ne. (p.0, set_else views id n w ne ∙ p.1, λ pos. sym is ∙ p.2 pos)) in
@@ -157,9 +155,7 @@ placed_keep views id v w at alive back placed =
 pub placed_snoc : (views : List View) (w : View) → ((n : ℕ) → Carries w n → ⊥)
     → NumbersArePlaces views → NumbersArePlaces (views ++ w ∷ [])
 placed_snoc views w none placed j x n e c = elim (at_end views w x j e) [
-  | inl a ↦
-      let p = placed j x n a c in
-      (p.0, at_longer views (w ∷ []) n p.0 p.1, p.2)
+  | inl a ↦ let p = placed j x n a c in (p.0, at_longer views (w ∷ []) n p.0 p.1, p.2)
   | inr a ↦ absurd (none n (subst (λ (u : View). Carries u n) (sym a.1) c))
 ]
 
@@ -172,12 +168,9 @@ pub seats_kept : (history later : List Entry) (views : List View) (id : ℕ) (v 
     → SomeSeat (λ u. Carries u e.seat) (set views id w))
     → SomeSeat (λ u. u.seen ≡ later) (set views id w) → AreSeats later (set views id w)
 seats_kept history later views id v w at share carried seats called known =
-    let sum : total seat_share (set views id w) + v.share ≡ total seat_share views + w.share =
-    total_set seat_share views id v w at in
-    let back : (n : ℕ) → Carries w n → Carries v n =
-    λ n. subst (λ (c : List ℕ). is_among n c ≡ true) carried in
+    let back : (n : ℕ) → Carries w n → Carries v n = λ n c. rw (← carried) c in
     record {
-      shares = omega (arith, sum, share, seats.shares);
+      shares = omega (arith, total_set seat_share views id v w at, share, seats.shares);
       apart = λ n. only_keep (λ (u : View). Carries u n) views id v w at (seats.apart n) (back n);
       placed = placed_keep views id v w at (subst (λ (n : ℕ). 0 < n) share) back seats.placed;
       called = called;
@@ -194,9 +187,6 @@ total_ge f (x ∷ xs) (suc j) u e = let h = total_ge f xs j u e in omega arith
 -- writes at two different places may be done in either order
 pub set_swap : {A : Type 0} (l : List A) (i j : ℕ) (a b : A) → j ≢ i
     → set (set l i a) j b ≡ set (set l j b) i a
-set_swap [] i j a b ne = refl
 set_swap (x ∷ xs) zero zero a b ne = absurd (ne refl)
-set_swap (x ∷ xs) zero (suc j) a b ne = refl
-set_swap (x ∷ xs) (suc i) zero a b ne = refl
-set_swap (x ∷ xs) (suc i) (suc j) a b ne =
-    ap (λ l. x ∷ l) (set_swap xs i j a b (λ e. ne (ap suc e)))
+set_swap (x ∷ xs) (suc i) (suc j) a b ne = rw (set_swap xs i j a b (λ e. ne (ap suc e)))
+set_swap _ _ _ a b ne = refl
