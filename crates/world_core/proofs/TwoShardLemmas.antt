@@ -1,8 +1,8 @@
 -- A finished shard behind another, as one.
-use Rattle.std.proofs.Common.{◌≡◌, ◌∙◌, refl, sym, ap, subst, ◌+◌, List, [], ◌∷◌, ◌++◌, append-nil, append_assoc, arith}
-use Rattle.std.specs.List.{All, flat_map}
+use Rattle.std.proofs.Common.{◌≡◌, ◌∙◌, refl, sym, ◌+◌, List, [], ◌∷◌, ◌++◌, append-nil, append_assoc, arith}
+use Rattle.std.specs.List.{All}
 use Rattle.std.specs.List.Sorted.{IsPermutation}
-use Rattle.std.proofs.lemmas.List.Elements.{All-append, All-same, All-weaker}
+use Rattle.std.proofs.lemmas.List.Elements.{All-append}
 use Rattle.std.proofs.lemmas.List.Sorted.{IsPermutation-append_left, IsPermutation-refl, IsPermutation-trans}
 use Rattle.std.proofs.lemmas.List.Sums.{sum_by-cons}
 use mathlib.Core.List.{IsPrefix}
@@ -46,13 +46,11 @@ pub two-numbered : ((early history : List Entry) → IsPrefix early history
     → AreTwo front back whole → All (IsNumbered front.seat.seen) front.births
     → All (IsNumbered back.seat.seen) back.births → All (IsNumbered whole.seat.seen) whole.births
 two-numbered stay front back whole two first second =
-    All-same (IsNumbered whole.seat.seen) whole.births (front.births ++ back.births) two.births
-    (All-append (IsNumbered whole.seat.seen) front.births back.births
-    (All-weaker (IsNumbered front.seat.seen) (IsNumbered whole.seat.seen)
-    (λ d. number-stays stay front.seat.seen whole.seat.seen d two.front_seen) front.births
-    first)
-    (All-weaker (IsNumbered back.seat.seen) (IsNumbered whole.seat.seen)
-    (λ d. number-stays stay back.seat.seen whole.seat.seen d two.back_seen) back.births second))
+    rw two.births (All-append (IsNumbered whole.seat.seen) front.births back.births
+    (λ k d within.
+    number-stays stay front.seat.seen whole.seat.seen _ two.front_seen (first k d within))
+    (λ k d within.
+    number-stays stay back.seat.seen whole.seat.seen _ two.back_seen (second k d within)))
 
 -- a shard alone
 pub joined-alone : (whole : Finished) → All (IsNumbered whole.seat.seen) whole.births
@@ -66,23 +64,17 @@ joined-alone whole numbers = record {
   share = omega arith;
   seen = ([], append-nil whole.seat.seen);
   numbers = numbers;
-  own = subst (λ calls. IsPermutation calls (own_calls_of whole.seat))
-      (sym (append-nil (own_calls_of whole.seat))) (IsPermutation-refl (own_calls_of whole.seat));
+  own = rw append-nil (IsPermutation-refl (own_calls_of whole.seat));
 }
 
 -- what joins others behind two joins the second and the others behind the first
 pub joined-more : (front back two end : Finished) (others : List Finished) → AreTwo front back two
     → IsJoined two others end → IsJoined front (back ∷ others) end
 joined-more front back two end others are joined = record {
-  cells = joined.cells ∙ ap (λ cells. cells ++ flat_map (λ one. one.cells) others) are.cells
-      ∙ append_assoc front.cells back.cells (flat_map (λ one. one.cells) others);
-  standings = joined.standings
-      ∙ ap (λ told. told ++ flat_map (λ one. one.standings) others) are.standings
-      ∙ append_assoc front.standings back.standings (flat_map (λ one. one.standings) others);
-  births = joined.births ∙ ap (λ births. births ++ flat_map (λ one. one.births) others) are.births
-      ∙ append_assoc front.births back.births (flat_map (λ one. one.births) others);
-  dead = joined.dead ∙ ap (λ dead. dead ++ flat_map (λ one. one.dead) others) are.dead
-      ∙ append_assoc front.dead back.dead (flat_map (λ one. one.dead) others);
+  cells = rw (joined.cells, are.cells, append_assoc);
+  standings = rw (joined.standings, are.standings, append_assoc);
+  births = rw (joined.births, are.births, append_assoc);
+  dead = rw (joined.dead, are.dead, append_assoc);
   bank = joined.bank ∙ are.bank;
   share = omega (
     arith,
@@ -92,8 +84,7 @@ joined-more front back two end others are joined = record {
   );
   seen = IsPrefix-trans front.seat.seen two.seat.seen end.seat.seen are.front_seen joined.seen;
   numbers = joined.numbers;
-  own = subst (λ calls. IsPermutation calls (own_calls_of end.seat))
-      (append_assoc (own_calls_of front.seat) (own_calls_of back.seat) (calls_in others))
+  own = rw (← append_assoc (own_calls_of front.seat) (own_calls_of back.seat) (calls_in others))
       (IsPermutation-trans ((own_calls_of front.seat ++ own_calls_of back.seat) ++ calls_in others)
       (own_calls_of two.seat ++ calls_in others) (own_calls_of end.seat)
       (IsPermutation-append_left (calls_in others)
