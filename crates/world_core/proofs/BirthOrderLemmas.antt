@@ -1,10 +1,10 @@
 -- The newborns of an update, in the order of their cells.
-use Rattle.std.proofs.Common.{◌≡◌, ◌^◌, ℕ, suc, ◌+◌, ◌-◌, ◌<◌, ◌≤◌, Some, None, Option, List, [], ◌∷◌, ◌++◌, length, map, sum, get_or, arith, refl, sym, ap, subst, inl, inr}
+use Rattle.std.proofs.Common.{◌≡◌, ◌^◌, ℕ, suc, ◌+◌, ◌-◌, ◌<◌, ◌≤◌, Some, None, Option, List, [], ◌∷◌, ◌++◌, length, map, sum, get_or, arith, refl, ap, subst, inl, inr}
 use Rattle.std.specs.List.{All, flat_map, enumerate_from}
 use Rattle.std.specs.List.Sorted.{IsNonDecreasing}
 use Rattle.std.proofs.lemmas.Bool.{cases_lt}
 use Rattle.std.proofs.lemmas.List.{get_or-map, map-append, length-map, length-append, get_or_append_left, get_or-append_right}
-use Rattle.std.proofs.lemmas.List.Elements.{All-nil, All-cons, All-append, All-map, All-weaker, All-same}
+use Rattle.std.proofs.lemmas.List.Elements.{All-nil, All-append, All-map}
 use Rattle.std.proofs.lemmas.List.Sums.{sum_by-cons}
 use Rattle.organism.specs.Newborns.{NewbornValue}
 use Rattle.world_config.specs.Values.{ConfigValues}
@@ -63,19 +63,14 @@ nondecreasing-level xs n level i j d upward within =
 abbrev pub cells_of : List Delivery → List ℕ
 cells_of births = map (λ d. d.cell) births
 
--- each newborn of a cell is in that cell
-cells_of-one : (cell id : ℕ) (newborns : List NewbornValue)
-    → All (λ x. x ≡ cell) (cells_of (map (delivery_of cell id) newborns))
-cells_of-one cell id [] = All-nil (λ x. x ≡ cell)
-cells_of-one cell id (b ∷ bs) =
-    All-cons (λ x. x ≡ cell) cell (cells_of (map (delivery_of cell id) bs)) refl
-    (cells_of-one cell id bs)
-
 -- the newborns of a life stand in one cell
 cells_of-births_by : (cell : ℕ) (newborns : List NewbornValue) (slot : Option Occupant)
     → All (λ x. x ≡ cell) (cells_of (births_by cell newborns slot))
 cells_of-births_by cell newborns None = All-nil (λ x. x ≡ cell)
-cells_of-births_by cell newborns (Some o) = cells_of-one cell o.id newborns
+cells_of-births_by cell newborns (Some o) =
+    All-map (λ x. x ≡ cell) (λ (d : Delivery). d.cell) (map (delivery_of cell o.id) newborns)
+    (All-map (λ (d : Delivery). d.cell ≡ cell) (delivery_of cell o.id) newborns
+    (λ k d within. refl))
 
 -- the births of the cells from one on
 abbrev pub births_from : ℕ → List CellLife → List Delivery
@@ -93,13 +88,10 @@ births_from-above : (k : ℕ) (lives : List CellLife)
     → All (λ x. k ≤ x) (cells_of (births_from k lives))
 births_from-above k [] = All-nil (λ x. k ≤ x)
 births_from-above k (l ∷ ls) =
-    let first = All-weaker (λ x. x ≡ k) (λ x. k ≤ x) (λ x h. omega arith)
-    (cells_of (births_in (k, l))) (cells_of-births_by k l.newborns l.occupant) in
-    let rest = All-weaker (λ x. k + 1 ≤ x) (λ x. k ≤ x) (λ x h. omega arith)
-    (cells_of (births_from (k + 1) ls)) (births_from-above (k + 1) ls) in
-    All-same (λ x. k ≤ x) _ _ (cells_of-from k l ls)
+    rw (cells_of-from k l ls)
     (All-append (λ x. k ≤ x) (cells_of (births_in (k, l))) (cells_of (births_from (k + 1) ls))
-    first rest)
+    (λ i d within. omega (arith, cells_of-births_by k l.newborns l.occupant i d within))
+    (λ i d within. omega (arith, births_from-above (k + 1) ls i d within)))
 
 -- their cells never fall
 births_from-rise : (k : ℕ) (lives : List CellLife)
@@ -107,13 +99,10 @@ births_from-rise : (k : ℕ) (lives : List CellLife)
 births_from-rise k [] = nondecreasing-level [] k (All-nil (λ x. x ≡ k))
 births_from-rise k (l ∷ ls) =
     let one = cells_of-births_by k l.newborns l.occupant in
-    let low = All-weaker (λ x. x ≡ k) (λ x. x ≤ k + 1) (λ x h. omega arith)
-    (cells_of (births_in (k, l))) one in
-    let rise = nondecreasing-append (cells_of (births_in (k, l)))
-    (cells_of (births_from (k + 1) ls)) (k + 1)
-    (nondecreasing-level (cells_of (births_in (k, l))) k one) (births_from-rise (k + 1) ls) low
-    (births_from-above (k + 1) ls) in
-    subst IsNonDecreasing (sym (cells_of-from k l ls)) rise
+    rw (cells_of-from k l ls)
+    (nondecreasing-append (cells_of (births_in (k, l))) (cells_of (births_from (k + 1) ls)) (k + 1)
+    (nondecreasing-level (cells_of (births_in (k, l))) k one) (births_from-rise (k + 1) ls)
+    (λ i d within. omega (arith, one i d within)) (births_from-above (k + 1) ls))
 
 -- births are in the order of their cells
 pub births_of-rise : (lives : List CellLife) → IsNonDecreasing (cells_of (births_of lives))
