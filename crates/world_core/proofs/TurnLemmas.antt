@@ -1,5 +1,5 @@
 -- A turn of the count after lives, over what is read of the cell.
-use Rattle.std.proofs.Common.{◌≡◌, ◌∙◌, sym, ap, subst, ℕ, ◌+◌, ◌<◌, ◌≤◌, List, length, map, set, get_or, Option, None, arith}
+use Rattle.std.proofs.Common.{◌≡◌, ◌∙◌, sym, ap, ℕ, ◌+◌, ◌<◌, ◌≤◌, List, length, map, get_or, Option, None, arith}
 use Rattle.std.proofs.lemmas.List.{get_or-map, get_or_read, length-map}
 use Rattle.cell_shards.specs.CellLives.{RoundNumbers, left_in, part_from, shard_lives_of, standing_in}
 use Rattle.cell_shards.specs.declared.standing.Standing.{Standing}
@@ -55,15 +55,10 @@ module _ {config : ConfigValues} {update : ℕ} {cells : List (Option Occupant)}
   pub all-counted : (cell : ℕ) (genomes : List (List Letter)) (keys : List ℕ) (counts : Counts)
       → length left ≤ cell → IsKeptOf (mixed (occupants_of left ids) cells cell) genomes keys counts
       → IsKeptOf (occupants_of left ids) genomes keys counts
-  all-counted cell genomes keys counts past =
-      subst (λ (cells : List (Option Occupant)). IsKeptOf cells genomes keys counts)
-      (mixed-all (occupants_of left ids) cells cell next-long
-      (omega (
-        arith,
-        past,
-        next-long,
-        occupants_of-length left ids (lived-length apart left are),
-      )))
+  all-counted cell genomes keys counts past kept =
+      let long = occupants_of-length left ids (lived-length apart left are) in
+      rw (mixed-all (occupants_of left ids) cells cell next-long
+      (omega (arith, past, next-long, long))) at kept
 
   module _ (one_list : OneList) {keys : List ℕ} {standings told : List (Option Standing)}
       (lists : AreRead os left keys standings told) (genomes : List (List Letter))
@@ -114,16 +109,11 @@ module _ {config : ConfigValues} {update : ℕ} {cells : List (Option Occupant)}
     pub counted-here : CountsChange before after key was now
         → IsKeptOf (mixed (occupants_of left ids) cells (cell + 1)) genomes keys after
     counted-here counted =
-        let so : CountsChange before after (get_or keys cell 0) (standing_in (get_or os cell None))
-        (standing_in (get_or left cell None)) =
-        subst (λ (key : ℕ). CountsChange before after key (standing_in (get_or os cell None))
-        (standing_in (get_or left cell None))) key-here
-        (subst (λ was. CountsChange before after key was (standing_in (get_or left cell None)))
-        was-here (subst (CountsChange before after key was) now-here counted)) in
-        subst (λ (cells : List (Option Occupant)). IsKeptOf cells genomes keys after)
-        (ap (λ (slot : Option Occupant). set (mixed (occupants_of left ids) cells cell) cell slot)
-        (sym (occupants_of-at left ids cell (lived-length apart left are)))
-        ∙ mixed-step (occupants_of left ids) cells cell next-long stands)
+        let so = rw (key-here, was-here, now-here) at counted in
+        rw (
+          ← mixed-step (occupants_of left ids) cells cell next-long stands,
+          occupants_of-at left ids cell (lived-length apart left are),
+        )
         (counted-again one_list (mixed (occupants_of left ids) cells cell) genomes keys before after
         cell among (get_or ids cell 0) kept (get_or os cell None) (get_or left cell None) here goes
         so)
