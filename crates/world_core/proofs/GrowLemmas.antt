@@ -1,7 +1,6 @@
 -- A bank that grows with the list of all organisms.
-use Rattle.std.proofs.Common.{◌≡◌, ◌∙◌, refl, sym, ap, subst, List, [], ◌∷◌, ◌++◌, append-nil, map}
+use Rattle.std.proofs.Common.{◌≡◌, refl, List, [], ◌∷◌, ◌++◌, append-nil, map}
 use Rattle.std.proofs.lemmas.List.{map_push}
-use mathlib.Core.List.{IsPrefix}
 use Rattle.cell_shards.specs.Finishing.{genome_in}
 use Rattle.cell_shards.specs.declared.delivered.Delivered.{Delivered}
 use Rattle.genotype_bank.specs.BankHistory.{HasEachOnce, with_genome}
@@ -24,9 +23,8 @@ newcomer-enrolled scene link organism = refl
 pub Grows_same : (old new : List (List Letter)) (before after : List Link) → new ≡ old
     → after ≡ before → Grows old new before after
 Grows_same old new before after same all = record {
-  stays = subst (IsPrefix old) (sym same) ([], append-nil old);
-  each = λ has. subst (λ genomes. HasEachOnce genomes (genomes_ever after)) (sym same)
-      (subst (λ everyone. HasEachOnce old (genomes_ever everyone)) (sym all) has);
+  stays = rw same ([], append-nil old);
+  each = λ has. rw (same, all) has;
 }
 
 -- one step after another
@@ -49,13 +47,9 @@ pub Grows_founder : OneMore
     → new ≡ with_genome old genome → after ≡ before ++ link ∷ [] → link.genome ≡ genome
     → Grows old new before after
 Grows_founder more old new before after link genome interned came same = record {
-  stays = subst (IsPrefix old) (sym interned) (with_genome-prefix old genome);
-  each = λ has. (let all : genomes_ever after ≡ genomes_ever before ++ genome ∷ [] =
-      ap genomes_ever came ∙ map_push (λ (l : Link). l.genome) before link
-      ∙ ap (λ g. genomes_ever before ++ g ∷ []) same in
-      subst (λ genomes. HasEachOnce genomes (genomes_ever after)) (sym interned)
-      (subst (HasEachOnce (with_genome old genome)) (sym all)
-      (more old (genomes_ever before) genome has)));
+  stays = rw interned (with_genome-prefix old genome);
+  each = λ has. rw (interned, came, map_push (λ (l : Link). l.genome) before link, same)
+      (more old (genomes_ever before) genome has);
 }
 
 -- newborns come whose genomes were taken in
@@ -64,6 +58,6 @@ pub Grows_births : (old new : List (List Letter)) (before after : List Link)
     → genomes_ever after ≡ genomes_ever before ++ map genome_in births → Grows old new before after
 Grows_births old new before after births takes all = record {
   stays = takes.stays;
-  each = λ has. subst (HasEachOnce new) (sym all)
+  each = λ has. rw all
       (each-through new old (genomes_ever before) (map genome_in births) has.members takes.each);
 }
