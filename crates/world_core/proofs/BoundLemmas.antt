@@ -81,24 +81,18 @@ module _ (config : ConfigValues) (update : ℕ) (cells : List (Option Occupant))
   lives-keep place =
       elim (cases_lt place (length cells)) [
         | inl within ↦
-            subst (KeepsBounds config update (slice_at config cells place)
-            (get_or cells place None))
-            (sym (get_or-map-range_with_len (life_at config (update + 1) cells) 0
-            (length cells) place place no_life within (omega arith)))
+            rw (get_or-map-range_with_len (life_at config (update + 1) cells) 0
+            (length cells) place place no_life within (omega arith))
             (life-keeps place within (get_or cells place None) refl)
         | inr past ↦
-            subst (λ slot. KeepsBounds config update (slice_at config cells place) slot
-            (get_or (lives_of config (update + 1) cells) place no_life))
-            (sym (get_or_past cells place None past))
-            (subst (KeepsBounds config update (slice_at config cells place) None)
-            (sym (get_or_past (lives_of config (update + 1) cells) place no_life
-            (omega (
-              arith,
-              past,
-              length-map-range_with_len (life_at config (update + 1) cells) 0
-                  (length cells),
-            ))))
-            (nobody-keeps config update (slice_at config cells place)))
+            let long = length-map-range_with_len (life_at config (update + 1) cells) 0
+            (length cells) in
+            rw (
+              get_or_past cells place None past,
+              get_or_past (lives_of config (update + 1) cells) place no_life
+                  (omega (arith, past, long)),
+            )
+            (nobody-keeps config update (slice_at config cells place))
       ]
 
   -- there are as many lives as cells
@@ -139,6 +133,6 @@ module _ (config : ConfigValues) (update : ℕ) (cells : List (Option Occupant))
     where
       kept : (k : ℕ) (d : CellLife) → k < length (lives_of config (update + 1) cells)
           → IsBoundedIn (update + 1) (get_or (lives_of config (update + 1) cells) k d).occupant
-      kept k d within = subst (λ (l : CellLife). IsBoundedIn (update + 1) l.occupant)
-          (get_or_default (lives_of config (update + 1) cells) k no_life d within)
+      kept k d within =
+          rw (← get_or_default (lives_of config (update + 1) cells) k no_life d within)
           (lives-keep k).cell
