@@ -1,7 +1,8 @@
 -- Those that died of age leave their cells one after another, or all at once.
-use Rattle.std.proofs.Common.{◌≡◌, ◌∙◌, refl, sym, ap, ℕ, ◌+◌, Bool, true, false, cond, List, [], ◌∷◌, ◌++◌, append-nil, append_assoc, length, map, get_or, filter, Option, Some, None, arith}
+use Rattle.std.proofs.Common.{◌≡◌, ◌∙◌, refl, sym, ap, ℕ, ◌+◌, Bool, cond, List, [], ◌∷◌, ◌++◌, append-nil, append_assoc, length, map, get_or, filter, Option, Some, None, arith, inl, inr}
 use Rattle.std.specs.List.{filter_map, range_with_len, scan}
 use Rattle.std.specs.Option.{option_map, option_to_list}
+use Rattle.std.proofs.lemmas.Bool.{cases_Bool}
 use Rattle.std.proofs.lemmas.List.{get_or_at, length_push, map-append, set_at}
 use Rattle.lineage_log.specs.Links.{Link}
 use Rattle.log_lines.specs.Line.{Line, Death}
@@ -94,38 +95,29 @@ module _ (update : ℕ) (everyone : List Link) where
       ≡ scene_with (before ++ map staying_in lives) (gone ++ ids_in (departed_from first lives))
   burials-from before [] gone first long = ap (scene_with (before ++ [])) (sym (append-nil gone))
   burials-from before (l ∷ lives) gone first long =
-      by l.died (λ slot more. burials-from (before ++ slot ∷ []) lives more (first + 1)
+      let dead : List Departure = option_to_list (option_map (λ o. departure first o.id) l.occupant) in
+      let more_gone : List ℕ = option_to_list (id_of l.occupant) in
+      let rest = departed_from (first + 1) lives in
+      let later = λ (slot : Option Occupant) (more : List ℕ).
+      burials-from (before ++ slot ∷ []) lives more (first + 1)
       (omega (arith, length_push before slot, long))
-      ∙ ap (λ cells. scene_with cells (more ++ ids_in (departed_from (first + 1) lives)))
-      (append_assoc before (slot ∷ []) (map staying_in lives)))
-    where
-      dead : List Departure
-      dead = option_to_list (option_map (λ o. departure first o.id) l.occupant)
-
-      by : (b : Bool)
-          → ((slot : Option Occupant) (more : List ℕ)
-          → with_deaths (scene_with ((before ++ slot ∷ []) ++ occupants lives) more)
-          (deaths_at (first + 1) lives) ≡ scene_with (before ++ slot ∷ map staying_in lives)
-          (more ++ ids_in (departed_from (first + 1) lives)))
-          → with_deaths (scene_with (before ++ l.occupant ∷ occupants lives) gone)
-          (cond b (first ∷ deaths_at (first + 1) lives) (deaths_at (first + 1) lives))
-          ≡ scene_with (before ++ cond b None l.occupant ∷ map staying_in lives)
-          (gone ++ ids_in (cond b dead [] ++ departed_from (first + 1) lives))
-      by false later =
-          ap (λ cells. with_deaths (scene_with cells gone) (deaths_at (first + 1) lives))
-          (sym (append_assoc before (l.occupant ∷ []) (occupants lives)))
-          ∙ later l.occupant gone
-      by true later =
-          ap (λ scene. with_deaths scene (deaths_at (first + 1) lives))
-          (one-death before (occupants lives) l.occupant gone first long)
-          ∙ later None (gone ++ option_to_list (id_of l.occupant))
-          ∙ ap (scene_with (before ++ None ∷ map staying_in lives))
-          (append_assoc gone (option_to_list (id_of l.occupant))
-          (ids_in (departed_from (first + 1) lives))
-          ∙ ap (λ ids. gone ++ (ids ++ ids_in (departed_from (first + 1) lives)))
-          (sym (ids-in-one first l.occupant))
-          ∙ ap (λ ids. gone ++ ids)
-          (sym (map-append (λ (one : Departure). one.id) dead (departed_from (first + 1) lives))))
+      ∙ ap (λ cells. scene_with cells (more ++ ids_in rest))
+      (append_assoc before (slot ∷ []) (map staying_in lives)) in
+      elim (cases_Bool l.died) [
+        | inl dies ↦
+            rw dies
+            (ap (λ scene. with_deaths scene (deaths_at (first + 1) lives))
+            (one-death before (occupants lives) l.occupant gone first long)
+            ∙ later None (gone ++ more_gone)
+            ∙ rw (
+              map-append (λ (one : Departure). one.id) dead rest,
+              ids-in-one first l.occupant,
+              append_assoc gone more_gone (ids_in rest),
+            ))
+        | inr stays ↦
+            rw (stays, ← append_assoc before (l.occupant ∷ []) (occupants lives))
+            (later l.occupant gone)
+      ]
 
   -- their lines
   lines-from : (before : List (Option Occupant)) (lives : List CellLife) (gone : List ℕ) (first : ℕ)
@@ -133,43 +125,35 @@ module _ (update : ℕ) (everyone : List Link) where
       (deaths_at first lives) ≡ map (departure_line update) (departed_from first lives)
   lines-from before [] gone first long = refl
   lines-from before (l ∷ lives) gone first long =
-      by l.died (λ slot more. lines-from (before ++ slot ∷ []) lives more (first + 1)
-      (omega (arith, length_push before slot, long)))
+      let dead : List Departure = option_to_list (option_map (λ o. departure first o.id) l.occupant) in
+      let later = λ (slot : Option Occupant) (more : List ℕ).
+      lines-from (before ++ slot ∷ []) lives more (first + 1)
+      (omega (arith, length_push before slot, long)) in
+      let scene : Scene = scene_with (before ++ l.occupant ∷ occupants lives) gone in
+      elim (cases_Bool l.died) [
+        | inl dies ↦
+            rw (
+              dies,
+              told (death_line scene first)
+                  (scan with_death death_line (with_death scene first)
+                  (deaths_at (first + 1) lives)),
+              get_or_at before l.occupant (occupants lives) None first long,
+              one-death before (occupants lives) l.occupant gone first long,
+              lines-in-one first l.occupant,
+              map-append (departure_line update) dead (departed_from (first + 1) lives),
+              later None (gone ++ option_to_list (id_of l.occupant)),
+            )
+        | inr stays ↦
+            rw (stays, ← append_assoc before (l.occupant ∷ []) (occupants lives))
+            (later l.occupant gone)
+      ]
     where
-      dead : List Departure
-      dead = option_to_list (option_map (λ o. departure first o.id) l.occupant)
-
       -- what is told, and then the rest
       told : (line : Option Line) (rest : List (Option Line))
           → filter_map (λ line. line) (line ∷ rest) ≡ filter_map (λ line. line) (line ∷ [])
           ++ filter_map (λ line. line) rest
       told None rest = refl
       told (Some line) rest = refl
-
-      by : (b : Bool)
-          → ((slot : Option Occupant) (more : List ℕ)
-          → death_lines (scene_with ((before ++ slot ∷ []) ++ occupants lives) more)
-          (deaths_at (first + 1) lives)
-          ≡ map (departure_line update) (departed_from (first + 1) lives))
-          → death_lines (scene_with (before ++ l.occupant ∷ occupants lives) gone)
-          (cond b (first ∷ deaths_at (first + 1) lives) (deaths_at (first + 1) lives))
-          ≡ map (departure_line update) (cond b dead [] ++ departed_from (first + 1) lives)
-      by false later =
-          ap (λ cells. death_lines (scene_with cells gone) (deaths_at (first + 1) lives))
-          (sym (append_assoc before (l.occupant ∷ []) (occupants lives)))
-          ∙ later l.occupant gone
-      by true later =
-          let scene : Scene = scene_with (before ++ l.occupant ∷ occupants lives) gone in
-          told (death_line scene first)
-          (scan with_death death_line (with_death scene first) (deaths_at (first + 1) lives))
-          ∙ (λ i. filter_map (λ line. line)
-          (option_map (λ id. Death id update first)
-          (id_of (get_or_at before l.occupant (occupants lives) None first long i)) ∷ [])
-          ++ death_lines (one-death before (occupants lives) l.occupant gone first long i)
-          (deaths_at (first + 1) lives))
-          ∙ (λ i. lines-in-one first l.occupant i
-          ++ later None (gone ++ option_to_list (id_of l.occupant)) i)
-          ∙ sym (map-append (departure_line update) dead (departed_from (first + 1) lives))
 
   -- the scene once all dead have left
   pub burials-are : (lives : List CellLife)
