@@ -71,7 +71,7 @@ module _ (config : ConfigValues) (before after : SceneValue) (laws : GoOnLaws co
   goes_on valid = record {
     over = omega (arith, is.over, leads.update);
     settled = sym (length-replicate (length after.everyone) forgotten);
-    valid = subst CanGoOn (sym state_is) valid;
+    valid = rw state_is valid;
   }
 
   -- and so is its text
@@ -88,10 +88,8 @@ pub go_on_laws : (config other : ConfigValues) → other ≡ config
     → next_text (state_of_world other w) ≡ lines_text (update_lines other w))
     → GoOnLaws config
 go_on_laws config other same state text = record {
-  state = subst (λ (k : ConfigValues). (w : World) → k.updates ≤ w.update
-      → next_state (state_of_world k w) ≡ state_of_world k (next_world k w)) same state;
-  text = subst (λ (k : ConfigValues). (w : World) → k.updates ≤ w.update
-      → next_text (state_of_world k w) ≡ lines_text (update_lines k w)) same text;
+  state = rw (← same) state;
+  text = rw (← same) text;
 }
 
 module _ (config : ConfigValues) (scene : SceneValue) (stats : Stats)
