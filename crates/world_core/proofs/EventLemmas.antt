@@ -1,5 +1,5 @@
 -- The events of an update, one after another.
-use Rattle.std.proofs.Common.{◌≡◌, refl, sym, ◌∙◌, ap, ℕ, ◌+◌, ◌-◌, ◌*◌, ◌<◌, ◌≤◌, true, false, cond, ◌&&◌, nat_le, List, ◌∷◌, ◌++◌, length, drop, get_or, fold, filter, append_assoc, arith}
+use Rattle.std.proofs.Common.{◌≡◌, refl, sym, ◌∙◌, ap, ℕ, ◌+◌, ◌-◌, ◌*◌, ◌<◌, ◌≤◌, true, false, ◌&&◌, nat_le, List, ◌∷◌, ◌++◌, length, drop, get_or, fold, filter, append_assoc, arith}
 use Rattle.std.specs.Prelude.{◌==◌}
 use Rattle.std.specs.List.{scan, flat_map, enumerate_from}
 use Rattle.std.proofs.lemmas.Bool.{leb-true, and_parts}
@@ -54,14 +54,8 @@ pub way-past : (config : Config) (update i : ℕ) (e : Event) (first scene : Sce
 way-past config update i e first scene start text within here test way =
     let rest : List (ℕ × EventValue) = coming update (i + 1 + 1) (drop (i + 1) config.event) in
     let next : coming update (i + 1) (drop i config.event) ≡ rest =
-    at_drop_more (coming update (i + 1)) config.event i e within
-    ∙ ap (λ e. cond (e.update == update) ((i + 1, event_value e) ∷ rest) rest) (sym here)
-    ∙ ap (λ b. cond b ((i + 1, event_value e) ∷ rest) rest) test in
-    record {
-      leads = sym (ap (fold (after_event (values_of config)) scene) next) ∙ way.leads;
-      tells =
-          sym (ap (λ events. text ++ coming_text (values_of config) scene events) next) ∙ way.tells;
-    }
+    at_drop_more (coming update (i + 1)) config.event i e within ∙ rw (← here, test) in
+    record { leads = rw next at way.leads; tells = rw next at way.tells }
 
 -- an event of this update happens and is told
 pub way-on : (config : Config) (update i : ℕ) (e : Event) (first scene after : Scene)
@@ -77,14 +71,11 @@ way-on config update i e first scene after start text told within here test happ
     let x : ℕ × EventValue = (i + 1, event_value e) in
     let rest : List (ℕ × EventValue) = coming update (i + 1 + 1) (drop (i + 1) config.event) in
     let next : coming update (i + 1) (drop i config.event) ≡ x ∷ rest =
-    at_drop_more (coming update (i + 1)) config.event i e within
-    ∙ ap (λ e. cond (e.update == update) ((i + 1, event_value e) ∷ rest) rest) (sym here)
-    ∙ ap (λ b. cond b (x ∷ rest) rest) test in
+    at_drop_more (coming update (i + 1)) config.event i e within ∙ rw (← here, test) in
     let told_here : List ℕ = lines_text (what_lines scene (what_value e.what)) in
     let now : Scene = after_what C scene (i + 1) (what_value e.what) in
     record {
-      leads = ap (λ s. fold (after_event C) s rest) happened
-          ∙ sym (ap (fold (after_event C) scene) next) ∙ way.leads;
+      leads = rw happened (rw next at way.leads);
       tells = ap (λ t. t ++ coming_text C after rest) lines
           ∙ ap (λ s. (text ++ told_here) ++ coming_text C s rest) happened
           ∙ append_assoc text told_here (coming_text C now rest)
