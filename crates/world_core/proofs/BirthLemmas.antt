@@ -1,5 +1,5 @@
 -- The newborns of an update, each with its placing.
-use Rattle.std.proofs.Common.{◌≡◌, ◌∙◌, ap, sym, subst, List, [], ◌∷◌, ◌++◌, append-nil, append_assoc, arith, fold, length, map}
+use Rattle.std.proofs.Common.{◌≡◌, ◌∙◌, ap, sym, List, [], ◌∷◌, ◌++◌, append-nil, append_assoc, arith, fold, length, map}
 use Rattle.std.specs.List.{zip}
 use Rattle.std.specs.Vec.Iter.{into_iter_items, into_iter_len, into_iter_steps}
 use Rattle.std.proofs.lemmas.Iterator.{YieldsList}
@@ -8,7 +8,6 @@ use Rattle.std.proofs.lemmas.List.{length-map, map_push}
 use Rattle.std.proofs.lemmas.Slice.Zip.{firsts-zip}
 use Rattle.birth_board.specs.declared.placing.Placing.{Placing}
 use Rattle.cell_shards.specs.Finishing.{genome_in}
-use Rattle.instruction_set.specs.declared.letter.Letter.{Letter}
 use Rattle.lineage_log.specs.Links.{Link}
 use Rattle.world_config.specs.Values.{ConfigValues}
 use Rattle.world_rules.specs.Scene.{Scene, with_newcomer}
@@ -23,7 +22,7 @@ pub yields-made : {A B Z : Type 0} (made : A → B) {s : _} (xs : List A) → in
     → into_iter_len s ≡ length xs
     → YieldsList (into_iter_steps {X = A} {Z = Z}) made s (map made xs)
 yields-made {A = A} {Z = Z} made {s} xs items len =
-    subst (λ ys. YieldsList (into_iter_steps {X = A} {Z = Z}) made s (map made ys)) items
+    rw (← items)
     (YieldsList-from_shown_while (into_iter_steps {X = A} {Z = Z}) made
     (λ u. map made (into_iter_items u)) (λ u. into_iter_len u ≡ length (into_iter_items u))
     (λ u t whole none. omega (arith, length-map (into_iter_items u) made, whole, none.0))
@@ -43,11 +42,8 @@ pub placed-genomes : (config : ConfigValues) (scene : Scene) (turns : List (Deli
     ++ map (λ turn. turn.0.newborn.genome) turns
 placed-genomes config scene [] = sym (append-nil (genomes_ever scene.everyone))
 placed-genomes config scene (turn ∷ turns) =
-    let rest : List (List Letter) =
-    map (λ (turn : Delivery × Placing). turn.0.newborn.genome) turns in
     placed-genomes config (with_newborn config scene turn) turns
-    ∙ ap (λ genomes. genomes ++ rest) (newborn-genomes config scene turn)
-    ∙ append_assoc (genomes_ever scene.everyone) (turn.0.newborn.genome ∷ []) rest
+    ∙ rw (newborn-genomes config scene turn, append_assoc)
 
 -- the genomes of newborns beside as many placings
 pub genomes-beside : (births : List Birth) (placings : List Placing)
