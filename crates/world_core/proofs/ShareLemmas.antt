@@ -1,5 +1,5 @@
 -- Where shards start.
-use Rattle.std.proofs.Common.{◌≡◌, ◌∙◌, sym, ap, subst, ℕ, zero, suc, ◌+◌, ◌<◌, ◌≤◌, List, [], ◌∷◌, ◌++◌, length, map, max, reverse, sum, take, arith, ◌⊎◌, inl, inr}
+use Rattle.std.proofs.Common.{◌≡◌, ◌∙◌, sym, ap, ℕ, zero, suc, ◌+◌, ◌<◌, ◌≤◌, List, [], ◌∷◌, ◌++◌, length, map, max, reverse, sum, take, arith, ◌⊎◌, inl, inr}
 use Rattle.std.proofs.Math.Nat.{div-eq_of_lt, eq-or-lt_of_le, max-eq_left}
 use Rattle.std.proofs.lemmas.List.{length-take-le, take-take}
 use Rattle.cell_shards.specs.Shards.{first_cell}
@@ -44,31 +44,20 @@ module _ (workers : ℕ) (slices : List ℕ) (jobs : List Job) (shard : ℕ) (lo
       let ends : job.first < length slices → share shard < load_before slices (job.first + 1) =
       λ more. by_place (eq-or-lt_of_le within) more in
       let starts : StartsAtShare workers slices shard job.first =
-      record {
-        from = subst (λ n. n ≤ share shard) (ap sum (shorter job.first within)) from;
-        to = ends;
-      } in
+      record { from = omega (arith, from, ap sum (shorter job.first within)); to = ends } in
       let ordered : reverse next ≡ job ∷ reverse jobs = ap reverse next_is ∙ jobs-push jobs job in
       record {
-        behind = subst (FollowShares workers slices (before + 1)) (sym ordered)
-            (subst (λ n. FollowShares workers slices n (job ∷ reverse jobs)) shard_is
-            (starts, started.behind));
+        behind = rw (ordered, ← shard_is) (starts, started.behind);
         left = fewer_is ∙ shorter job.first within ∙ ap (λ n. take n all) (sym size);
-        to = subst
-            (λ n. n < length slices → share (before + 1) < load_before slices (n + 1))
-            (sym size)
-            (subst (λ n. job.first < length slices → share n < load_before slices (job.first + 1))
-            shard_is ends);
+        to = rw (size, ← shard_is) ends;
       }
     where
       by_place : (job.first ≡ length loads) ⊎ (job.first < length loads)
           → job.first < length slices
           → share_before workers slices shard < load_before slices (job.first + 1)
       by_place (inl same) more =
-          subst (λ n. share_before workers slices shard < load_before slices (n + 1)) (sym same)
-          (omega (arith, rising, started.to (omega (arith, more, same))))
+          rw same (omega (arith, rising, started.to (omega (arith, more, same))))
       by_place (inr less) more =
-          subst (λ n. share_before workers slices shard < n)
-          (ap sum (ap (take (job.first + 1)) started.left
-          ∙ take-take (job.first + 1) (length loads) (map load_of slices) (omega (arith, less))))
-          (to less)
+          rw (ap (take (job.first + 1)) started.left
+          ∙ take-take (job.first + 1) (length loads) (map load_of slices) (omega (arith, less)))
+          at (to less)
