@@ -1,8 +1,8 @@
 -- Cells that are cut into jobs, from the last to the first.
-use Rattle.std.proofs.Common.{◌≡◌, ◌∙◌, sym, ap, subst, ℕ, ◌+◌, ◌-◌, ◌<◌, ◌≤◌, ◌^◌, List, [], ◌∷◌, ◌++◌, append_assoc, length, reverse, take, drop, Option, arith}
+use Rattle.std.proofs.Common.{◌≡◌, ◌∙◌, sym, ap, ℕ, ◌+◌, ◌-◌, ◌<◌, ◌≤◌, ◌^◌, List, [], ◌∷◌, ◌++◌, append_assoc, length, reverse, take, drop, Option, arith}
 use Rattle.std.specs.List.{All}
-use Rattle.std.proofs.lemmas.List.{length-append, length-drop, length-take-le, length_push, reverse-append, take-append-drop}
-use Rattle.std.proofs.lemmas.List.Elements.{All-cons, All-head, All-nil, All-same, All-tail}
+use Rattle.std.proofs.lemmas.List.{get_or_append_left, length-append, length-drop, length-take-le, length_push, reverse-append, take-append-drop}
+use Rattle.std.proofs.lemmas.List.Elements.{All-cons, All-nil, All-tail}
 use Rattle.cell_shards.specs.CellLives.{IsYoung}
 use Rattle.cell_shards.specs.Finishing.{CanRun}
 use Rattle.cell_shards.specs.declared.job.Job.{Job}
@@ -30,10 +30,9 @@ jobs-can-run first (job ∷ jobs) beside within few young =
     (All-back IsYoung job.cells (cells_in jobs) young))
   where
     All-front : {X : Type 0} (P : X → Type 0) (xs ys : List X) → All P (xs ++ ys) → All P xs
-    All-front P [] ys all = All-nil P
-    All-front P (x ∷ xs) ys all =
-        All-cons P x xs (All-head P x (xs ++ ys) all)
-        (All-front P xs ys (All-tail P x (xs ++ ys) all))
+    All-front P xs ys all k d within =
+        rw (← get_or_append_left xs ys d k within)
+        (all k d (omega (arith, within, length-append xs ys)))
 
     All-back : {X : Type 0} (P : X → Type 0) (xs ys : List X) → All P (xs ++ ys) → All P ys
     All-back P [] ys all = all
@@ -82,11 +81,8 @@ module _ (seat : SeatValue) (cells : List (Option OrganismState)) (slices : List
       let end : length left ≡ length front + length job.cells = omega (arith, size, many, within) in
       let ordered : reverse next ≡ job ∷ reverse jobs = ap reverse next_is ∙ jobs-push jobs job in
       record {
-        beside = subst (LieSideBySide (length front)) (sym ordered) (
-          sym size,
-          omega (arith, many, more, cut.long),
-          subst (λ n. LieSideBySide n (reverse jobs)) end cut.beside,
-        );
+        beside = rw ordered
+            (sym size, omega (arith, many, more, cut.long), rw (← end) cut.beside);
         cells_are = ap (λ all. front ++ cells_in all) ordered
             ∙ put_back job.first left front job.cells (cells_in (reverse jobs)) front_is cells_is
             ∙ cut.cells_are;
@@ -99,8 +95,6 @@ module _ (seat : SeatValue) (cells : List (Option OrganismState)) (slices : List
             ∙ (let shares : seat.share - length jobs - 1 ≡ seat.share - length next =
             omega (arith, ap length next_is, length_push jobs job) in
             λ i. record seat { share = shares i });
-        seats = All-same (λ (job : Job). job.seat ≡ seat_from seat) (reverse next)
-            (job ∷ reverse jobs) ordered
-            (All-cons (λ (job : Job). job.seat ≡ seat_from seat) job (reverse jobs)
+        seats = rw ordered (All-cons (λ (job : Job). job.seat ≡ seat_from seat) job (reverse jobs)
             (seat_is ∙ ap seat_from cut.seat_is) cut.seats);
       }
