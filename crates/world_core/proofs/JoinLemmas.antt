@@ -1,10 +1,10 @@
 -- Jobs that part the cells, and what comes of them as one.
-use Rattle.std.proofs.Common.{◌≡◌, ◌∙◌, refl, sym, ap, subst, ℕ, suc, ◌+◌, ◌≤◌, List, [], ◌∷◌, ◌++◌, append_assoc, length, map, Option, arith, inl, inr}
+use Rattle.std.proofs.Common.{◌≡◌, ◌∙◌, refl, sym, ap, ℕ, suc, ◌+◌, ◌≤◌, List, [], ◌∷◌, ◌++◌, append_assoc, length, map, Option, arith, inl, inr}
 use Rattle.std.specs.Prelude.{◌↔◌}
 use Rattle.std.specs.List.{All, Contains, cons_option, filter_map, flat_map, sum_by}
 use Rattle.std.specs.List.Sorted.{IsPermutation}
 use Rattle.std.proofs.lemmas.List.{map-append}
-use Rattle.std.proofs.lemmas.List.Elements.{All-cons, All-head, All-nil, All-tail, All-weaker, Contains-append_cases, Contains-append_left, Contains-append_right, filter_map-append}
+use Rattle.std.proofs.lemmas.List.Elements.{All-cons, All-head, All-nil, All-tail, Contains-append_cases, Contains-append_left, Contains-append_right, filter_map-append}
 use Rattle.std.proofs.lemmas.List.Sorted.{IsPermutation-refl, IsPermutation-sym}
 use Rattle.std.proofs.lemmas.List.Sums.{sum_by-cons}
 use mathlib.Core.List.{IsPrefix}
@@ -19,7 +19,7 @@ use Rattle.genotype_bank.specs.declared.view.Entry.{Entry}
 use Rattle.instruction_set.specs.declared.letter.Letter.{Letter}
 use Rattle.organism.specs.OrganismState.{OrganismState}
 use Rattle.organism.specs.OrganismLife.{OrganismLife}
-use Rattle.world_core.specs.Genotypes.{HasNumber, TakesIn}
+use Rattle.world_core.specs.Genotypes.{TakesIn}
 use Rattle.world_core.specs.Sharding.{IsJoined, LieSideBySide, PartCells, ShareSeat, seat_from}
 
 -- what the crate of shards says of parts that lie side by side, in its own words
@@ -270,24 +270,22 @@ ends-as laws round seat cells slices (job ∷ jobs) (first ∷ others) whole par
         few,
       );
       seen = IsPrefix-trans seat.seen first.seat.seen whole.seat.seen
-          (subst (λ (s : SeatValue). IsPrefix s.seen first.seat.seen) shares.0 interned.seen)
-          is.seen;
+          (rw shares.0 at interned.seen) is.seen;
       calls = own_calls_of first.seat ++ calls_in others;
       own = is.own;
-      genomes = filter_map-append (λ (one : Entry). interned_genome one.call)
-          (own_calls_of first.seat)
-          (calls_in others)
-          ∙ (λ i. (ap genomes_of interned.own
-          ∙ filter_map-append (λ (one : Entry). interned_genome one.call) (own_calls_of job.seat)
-          interned.calls) i ++ genomes-joined laws round seat jobs others shares.1 are.1 i)
-          ∙ (λ i. (genomes_of (kept i)
-          ++ calls-genomes interned.calls first.births interned.interned i)
-          ++ map genome_in (flat_map (λ one. one.births) others))
-          ∙ append_assoc (genomes_of (own_calls_of seat)) (map genome_in first.births)
-          (map genome_in (flat_map (λ one. one.births) others))
-          ∙ ap (λ born. genomes_of (own_calls_of seat) ++ born)
-          (sym (map-append genome_in first.births (flat_map (λ one. one.births) others))
-          ∙ ap (map genome_in) (sym is.births));
+      genomes = rw (
+        filter_map-append (λ (one : Entry). interned_genome one.call) (own_calls_of first.seat)
+            (calls_in others),
+        interned.own,
+        filter_map-append (λ (one : Entry). interned_genome one.call) (own_calls_of job.seat)
+            interned.calls,
+        genomes-joined laws round seat jobs others shares.1 are.1,
+        kept,
+        calls-genomes interned.calls first.births interned.interned,
+        is.births,
+        map-append genome_in first.births (flat_map (λ one. one.births) others),
+        append_assoc,
+      );
       numbers = is.numbers;
     }
 
@@ -323,9 +321,7 @@ seats-shared seat [] shares = absurd shares
 seats-shared seat (job ∷ jobs) shares =
     All-cons (λ (job : Job). job.seat.bank ≡ seat.bank) job jobs
     (ap (λ (s : SeatValue). s.bank) shares.0)
-    (All-weaker (λ (job : Job). job.seat ≡ seat_from seat)
-    (λ (job : Job). job.seat.bank ≡ seat.bank) (λ job same. ap (λ (s : SeatValue). s.bank) same)
-    jobs shares.1)
+    (λ k d within. ap (λ (s : SeatValue). s.bank) (shares.1 k d within))
 
 -- lists with the same members may stand for each other in front of others
 pub each-through : (genotypes first second born : List (List Letter))
@@ -363,16 +359,12 @@ takes-in laws round seat cells slices whole owns all ends = record {
   each =
       let history : HasEachOnce (genotypes_of whole.seat.seen) (genomes_of ends.calls) =
       laws.calls whole.seat.seen ends.calls
-      (subst (λ calls. IsPermutation calls ends.calls) all
-      (IsPermutation-sym ends.calls (own_calls_of whole.seat) ends.own)) in
+      (rw all at (IsPermutation-sym ends.calls (own_calls_of whole.seat) ends.own)) in
       let before : HasEachOnce (genotypes_of seat.seen) (genomes_of seat.seen) =
       laws.calls seat.seen seat.seen (IsPermutation-refl seat.seen) in
       each-through (genotypes_of whole.seat.seen) (genomes_of seat.seen) (genotypes_of seat.seen)
       (map genome_in whole.births)
       (λ genome. ((before.members genome).1, (before.members genome).0))
-      (subst (λ genomes. HasEachOnce (genotypes_of whole.seat.seen) genomes)
-      (ends.genomes ∙ ap (λ calls. genomes_of calls ++ map genome_in whole.births) owns)
-      history);
-  numbers = All-weaker (IsNumbered whole.seat.seen) (HasNumber (genotypes_of whole.seat.seen))
-      (λ d number. number.place) whole.births ends.numbers;
+      (rw (ends.genomes, owns) at history);
+  numbers = λ k d within. (ends.numbers k d within).place;
 }
