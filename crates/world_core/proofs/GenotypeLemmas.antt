@@ -1,11 +1,12 @@
 -- A whole seat that interns more genomes.
-use Rattle.std.proofs.Common.{◌≡◌, ◌∙◌, refl, sym, ap, ℕ, zero, suc, ◌+◌, ◌<◌, ◌≤◌, ◌⊎◌, Bool, true, false, cond, List, [], ◌∷◌, append-nil, fold, get_or, length, map, Some, arith, inl, inr}
+use Rattle.std.proofs.Common.{◌≡◌, ◌∙◌, refl, sym, ap, ℕ, zero, suc, ◌+◌, ◌<◌, ◌≤◌, cond, List, [], ◌∷◌, append-nil, fold, get_or, length, map, Some, arith, inl, inr}
 use Rattle.std.specs.Prelude.{nat_lt, slice_get}
 use Rattle.std.specs.List.{All, Contains}
-use Rattle.std.proofs.lemmas.Bool.{cases_lt, ltb-false, ltb-true}
+use Rattle.std.proofs.lemmas.Bool.{cases_lt}
+use Rattle.std.proofs.lemmas.Bool.Decides.{nat_tests}
 use Rattle.std.proofs.lemmas.List.{length-append}
 use Rattle.std.proofs.lemmas.List.Elements.{All-cons, All-head, All-nil, All-tail, Contains-append_cases, Contains-get_or}
-use Rattle.std.proofs.lemmas.Option.{slice_get-get_or}
+use Rattle.std.proofs.lemmas.Option.{slice_get-get_or, slice_get_within}
 use Rattle.cell_shards.specs.Finishing.{genome_in}
 use Rattle.cell_shards.specs.declared.delivered.Delivered.{Delivered}
 use Rattle.instruction_set.specs.declared.letter.Letter.{Letter}
@@ -48,30 +49,11 @@ genotypes-counted count before after genome number len next more at is counted =
 abbrev pub next_len : ℕ → Delivered → ℕ
 next_len n birth = cond (nat_lt birth.handle.number n) n (birth.handle.number + 1)
 
--- it is above the number, and no less than before
-next-above : (n : ℕ) (birth : Delivered) → (n ≤ next_len n birth)
-    × (birth.handle.number < next_len n birth)
-next-above n birth = by (nat_lt birth.handle.number n) refl where
-  -- for a number below n, or one that isn't
-  by : (b : Bool) → nat_lt birth.handle.number n ≡ b → (n ≤ cond b n (birth.handle.number + 1))
-      × (birth.handle.number < cond b n (birth.handle.number + 1))
-  by true is = (omega arith, ltb-true birth.handle.number n is)
-  by false is = (omega (arith, ltb-false birth.handle.number n is), omega arith)
-
--- where the number is below another, it stays within that
-next-within : (n most : ℕ) (birth : Delivered) → n ≤ most → birth.handle.number < most
-    → next_len n birth ≤ most
-next-within n most birth few below = by (nat_lt birth.handle.number n) where
-  -- for a number below n, or one that isn't
-  by : (b : Bool) → cond b n (birth.handle.number + 1) ≤ most
-  by true = few
-  by false = omega (arith, below)
-
 -- newborns make no genotype fewer
 len-grows : (n : ℕ) (births : List Delivered) → n ≤ fold next_len n births
 len-grows n [] = omega arith
 len-grows n (birth ∷ births) =
-    omega (arith, (next-above n birth).0, len-grows (next_len n birth) births)
+    grind (arith, nat_tests, len-grows (next_len n birth) births)
 
 -- their numbers are below how many there are then
 len-above : (n : ℕ) (births : List Delivered)
@@ -80,7 +62,7 @@ len-above n [] = All-nil (λ birth. birth.handle.number < n)
 len-above n (birth ∷ births) =
     All-cons (λ (one : Delivered). one.handle.number < fold next_len (next_len n birth) births)
     birth births
-    (omega (arith, (next-above n birth).1, len-grows (next_len n birth) births))
+    (grind (arith, nat_tests, len-grows (next_len n birth) births))
     (len-above (next_len n birth) births)
 
 -- where their numbers are below a bound, so is how many there are
@@ -88,18 +70,9 @@ len-within : (n most : ℕ) (births : List Delivered) → n ≤ most
     → All (λ birth. birth.handle.number < most) births → fold next_len n births ≤ most
 len-within n most [] few below = few
 len-within n most (birth ∷ births) few below =
-    len-within (next_len n birth) most births
-    (next-within n most birth few
-    (All-head (λ (one : Delivered). one.handle.number < most) birth births below))
+    let first = All-head (λ (one : Delivered). one.handle.number < most) birth births below in
+    len-within (next_len n birth) most births (grind (arith, nat_tests, first))
     (All-tail (λ (one : Delivered). one.handle.number < most) birth births below)
-
--- a number that has a genome is below their count
-number-within : (genomes : List (List Letter)) (number : ℕ) (genome : List Letter)
-    → slice_get genomes number ≡ Some genome → number < length genomes
-number-within [] number genome is = absurd cc
-number-within (g ∷ genomes) zero genome is = omega arith
-number-within (g ∷ genomes) (suc number) genome is =
-    omega (arith, number-within genomes number genome is)
 
 -- a genome of some newborns is that of one of them
 newborn-of : (P : Delivered → Type 0) (births : List Delivered) (genome : List Letter)
@@ -114,38 +87,32 @@ newborn-of P (birth ∷ births) genome all (suc k, within, is) =
 -- how many genotypes there are once the genomes of newborns were taken in
 pub len-taken : (old new : List (List Letter)) (births : List Delivered) → TakesIn old new births
     → AreDifferent new → fold next_len (length old) births ≡ length new
-len-taken old new births takes different = by (cases_lt most (length new)) where
-  -- how many genotypes have a number once all newborns have theirs
-  most : ℕ
-  most = fold next_len (length old) births
-
-  -- they are no more than the genomes taken in
-  within : most ≤ length new
-  within =
-      len-within (length old) (length new) births
-      (omega (arith, length-append old takes.stays.0, ap length takes.stays.1))
-      (λ k d inside. number-within new _ _ (takes.numbers k d inside))
-
-  -- whether they are taken for fewer or not, they are as many
-  by : (most < length new) ⊎ (length new ≤ most) → most ≡ length new
-  by (inr above) = omega (arith, above, within)
-  by (inl below) =
-      let genome : List Letter = get_or new most [] in
-      let there : slice_get new most ≡ Some genome = slice_get-get_or new most [] below in
-      absurd (elim (Contains-append_cases old (map genome_in births) genome
-      ((takes.each.members genome).0 (Contains-get_or new most [] below))) [
-        | inl has ↦
-            let early : slice_get old has.0 ≡ Some genome =
-            slice_get-get_or old has.0 genome has.1 ∙ ap Some has.2 in
-            let same : has.0 ≡ most =
-            different has.0 most genome (prefix-stays old new has.0 genome takes.stays early)
-            there in
-            omega (arith, same, has.1, len-grows (length old) births)
-        | inr has ↦
-            let born = newborn-of (λ birth. HasNumber new birth × (birth.handle.number < most))
-            births genome (λ k d inside.
-            (takes.numbers k d inside, len-above (length old) births k d inside)) has in
-            let same : born.0.handle.number ≡ most =
-            different born.0.handle.number most genome (born.1.0 ∙ ap Some born.2) there in
-            omega (arith, same, born.1.1)
-      ])
+len-taken old new births takes different =
+    -- how many genotypes have a number once all newborns have theirs, no more than were taken in
+    let most : ℕ = fold next_len (length old) births in
+    let within = len-within (length old) (length new) births
+    (omega (arith, length-append old takes.stays.0, ap length takes.stays.1))
+    (λ k d inside. slice_get_within new _ _ (takes.numbers k d inside)) in
+    elim (cases_lt most (length new)) [
+      | inl below ↦
+          let genome : List Letter = get_or new most [] in
+          let there : slice_get new most ≡ Some genome = slice_get-get_or new most [] below in
+          absurd (elim (Contains-append_cases old (map genome_in births) genome
+          ((takes.each.members genome).0 (Contains-get_or new most [] below))) [
+            | inl has ↦
+                let early : slice_get old has.0 ≡ Some genome =
+                slice_get-get_or old has.0 genome has.1 ∙ ap Some has.2 in
+                let same : has.0 ≡ most =
+                different has.0 most genome (prefix-stays old new has.0 genome takes.stays early)
+                there in
+                omega (arith, same, has.1, len-grows (length old) births)
+            | inr has ↦
+                let born = newborn-of (λ birth. HasNumber new birth × (birth.handle.number < most))
+                births genome (λ k d inside.
+                (takes.numbers k d inside, len-above (length old) births k d inside)) has in
+                let same : born.0.handle.number ≡ most =
+                different born.0.handle.number most genome (born.1.0 ∙ ap Some born.2) there in
+                omega (arith, same, born.1.1)
+          ])
+      | inr above ↦ omega (arith, above, within)
+    ]
