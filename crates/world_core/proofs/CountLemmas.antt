@@ -1,5 +1,5 @@
 -- The counts after lives, one cell after another.
-use Rattle.std.proofs.Common.{◌≡◌, ◌∙◌, refl, sym, ap, subst, ℕ, ◌+◌, ◌<◌, ◌≤◌, ◌^◌, List, [], ◌∷◌, ◌++◌, append-nil, append_assoc, length, set, get_or, take, drop, Option, Some, None, arith, inl, inr}
+use Rattle.std.proofs.Common.{◌≡◌, ◌∙◌, refl, sym, ap, ℕ, ◌+◌, ◌<◌, ◌≤◌, ◌^◌, List, [], ◌∷◌, ◌++◌, append-nil, append_assoc, length, set, get_or, take, drop, Option, Some, None, arith, inl, inr}
 use Rattle.std.proofs.Math.Seq.{map-set_same}
 use Rattle.std.proofs.lemmas.List.{drop_all, drop_more, get_or_at, length-append, length-drop, length-take-le, set_at, take_all, take_more}
 use Rattle.cell_shards.specs.CellLives.{standing_in}
@@ -43,11 +43,10 @@ module _ (one_list : OneList) (cells : List (Option Occupant)) (genomes : List (
       → CountsChange before after (get_or keys cell 0) (standing_in was) (standing_in now)
       → IsKeptOf (set cells cell (with_id id now)) genomes keys after
   counted-again None None here goes counted =
-      subst (λ (counts : Counts). IsKeptOf (set cells cell None) genomes keys counts) (sym counted)
+      rw counted
       (IsKeptOf-empty one_list cells genomes keys before before cell within here kept)
-  counted-again None (Some next) here goes counted = absurd (clash (goes.nobody refl)) where
-    clash : Some next ≡ None → ⊥
-    clash is = cc
+  counted-again None (Some next) here goes counted =
+      absurd (let none = goes.nobody refl in cc)
   counted-again (Some o) None here goes counted =
       IsKeptOf-removed one_list cells genomes keys before after cell within
       (record { id = id; organism = o }) kept here counted
@@ -91,9 +90,8 @@ mixed-step next was n long within =
 pub mixed-at : (next was : List (Option Occupant)) (n : ℕ) → length next ≡ length was
     → n < length was → get_or (mixed next was n) n None ≡ get_or was n None
 mixed-at next was n long within =
-    ap (λ rest. get_or (take n next ++ rest) n None) (drop_more was n None within)
-    ∙ get_or_at (take n next) (get_or was n None) (drop (n + 1) was) None n
-    (length-take-le n next (omega (arith, long, within)))
+    rw (drop_more was n None within) (get_or_at (take n next) (get_or was n None) (drop (n + 1) was) None n
+    (length-take-le n next (omega (arith, long, within))))
 
 -- there are as many cells
 pub mixed-length : (next was : List (Option Occupant)) (n : ℕ) → length next ≡ length was
