@@ -1,9 +1,9 @@
 -- What the shards leave is what a world's lives leave.
-use Rattle.std.proofs.Common.{◌≡◌, ◌∙◌, refl, sym, ap, subst, ℕ, ◌+◌, ◌<◌, ◌≤◌, ◌^◌, ◌⊎◌, Bool, true, false, cond, List, [], ◌∷◌, length, map, get_or, Option, Some, None, arith, inl, inr}
+use Rattle.std.proofs.Common.{◌≡◌, ◌∙◌, refl, sym, ap, ℕ, ◌+◌, ◌<◌, ◌≤◌, ◌^◌, ◌⊎◌, Bool, true, false, cond, List, [], ◌∷◌, length, map, get_or, Option, Some, None, arith, inl, inr}
 use Rattle.std.specs.List.{All, range_with_len, flat_map, enumerate_from}
 use Rattle.std.proofs.lemmas.Bool.{cases_lt}
 use Rattle.std.proofs.lemmas.List.{get_or-map, get_or_past, length-map, map-id}
-use Rattle.std.proofs.lemmas.List.Elements.{All-cons, All-head, All-map, All-nil, All-same, All-tail}
+use Rattle.std.proofs.lemmas.List.Elements.{All-cons, All-head, All-map, All-nil, All-tail}
 use Rattle.std.proofs.lemmas.List.FromFn.{length-map-range_with_len}
 use Rattle.cell_shards.specs.CellLives.{IsYoung, RoundNumbers, births_from, dead_in, deaths_from, left_in, newborns_in, part_from, shard_life_at, shard_life_of, shard_lives_of, standing_in}
 use Rattle.cell_shards.specs.Finishing.{birth_of}
@@ -13,7 +13,7 @@ use Rattle.merit_slices.specs.Slices.{slices_of}
 use Rattle.organism.specs.OrganismState.{OrganismState}
 use Rattle.organism.specs.OrganismLife.{OrganismLife}
 use Rattle.world_config.specs.Values.{ConfigValues}
-use Rattle.world_rules.specs.Lives.{CellLife, life_at, life_of, lives_of, merit_in, no_life, slice_at, slices_at, with_id}
+use Rattle.world_rules.specs.Lives.{CellLife, life_at, lives_of, merit_in, no_life, slice_at, slices_at, with_id}
 use Rattle.world_rules.specs.Statistics.{organism_in}
 use Rattle.world_rules.specs.Update.{births_in, births_of}
 use Rattle.world_rules.specs.World.{Occupant}
@@ -35,8 +35,8 @@ pub young-are : (update : ℕ) (os : List (Option OrganismState)) (ids : List �
 young-are update [] ids long early sound = All-nil IsYoung
 young-are update (o ∷ os) [] long early sound = absurd (omega (arith, long))
 young-are update (o ∷ os) (id ∷ ids) long early sound =
-    All-cons IsYoung o os (by o
-    (All-head (IsBoundedIn update) (with_id id o) (occupants_of os ids) sound))
+    All-cons IsYoung o os
+    (by o (All-head (IsBoundedIn update) (with_id id o) (occupants_of os ids) sound))
     (young-are update os ids (omega (arith, long)) early
     (All-tail (IsBoundedIn update) (with_id id o) (occupants_of os ids) sound))
   where
@@ -50,9 +50,7 @@ pub merits-fit : (os : List (Option OrganismState)) (ids : List ℕ)
     → standings ≡ map standing_in os → All (λ slot. merit_in slot ≤ 2 ^ 38) (occupants_of os ids)
     → All (λ merit. merit ≤ 2 ^ 38) (map merit_or_zero standings)
 merits-fit os ids standings long same fit =
-    All-same (λ (merit : ℕ). merit ≤ 2 ^ 38) (map merit_or_zero standings)
-    (map merit_in (occupants_of os ids))
-    (ap (map merit_or_zero) same ∙ sym (merits-of os ids long))
+    rw (same, ← merits-of os ids long)
     (All-map (λ (merit : ℕ). merit ≤ 2 ^ 38) merit_in (occupants_of os ids) fit)
 
 -- the steps of the cells
@@ -63,9 +61,7 @@ pub slices-are : (config : ConfigValues) (cells : List (Option Occupant))
     → slices ≡ slices_at config cells
 unfolding slices_at
 slices-are config cells os ids slices standings long were same bought =
-    bought ∙ ap (λ ms. slices_of ms config.average_slices)
-    (ap (map merit_or_zero) same ∙ sym (merits-of os ids long))
-    ∙ ap (slices_at config) were
+    rw (bought, same, ← merits-of os ids long, were)
 
 -- newborns with the ids of their parents are those that the shards delivered
 pub delivered-are : (ids : List ℕ) (newborns : List Delivered) (births : List Birth)
@@ -117,11 +113,7 @@ module _ {config : ConfigValues} {update : ℕ} {cells : List (Option Occupant)}
       let one : shard_life_of (round_of config update) cell steps slot ≡ shard_life_in cell =
       λ i. shard_life_of (sym apart.shared i) (place i) (get_or (sym apart.bought i) cell 0)
       slot in
-      subst (λ (l : OrganismLife). LivesAs ids cell l (life_in cell)) one
-      (subst (λ (slot' : Option Occupant). LivesAs ids cell
-      (shard_life_of (round_of config update) cell steps slot)
-      (life_of config update cell steps slot')) there
-      (life-as config update cell steps ids slot))
+      rw (← one, ← there) (life-as config update cell steps ids slot)
 
   -- who stays in the cells
   pub lived-cells : (left : List (Option OrganismState)) → left ≡ map left_in shard_lives
@@ -131,8 +123,7 @@ module _ {config : ConfigValues} {update : ℕ} {cells : List (Option Occupant)}
       ap (λ os. occupants_of os ids) are
       ∙ staying-are shard_life_in life_in 0 (length os) ids apart.long (λ place cell is.
       (let same : cell ≡ place = omega (arith, is) in
-      subst (λ (k : ℕ). with_id (get_or ids k 0) (left_in (shard_life_in cell))
-      ≡ staying_in (life_in cell)) same (lives-as cell).stays))
+      rw (← same) (lives-as cell).stays))
       ∙ ap (λ n. map staying_in (map life_in (range_with_len 0 n))) (sym cells-long)
 
   -- as many as have an id
@@ -189,7 +180,7 @@ module _ {config : ConfigValues} {update : ℕ} {cells : List (Option Occupant)}
       nobody = λ none. absurd cc;
       genome = λ old next a b. cc;
       merit = λ next b. (let here : o.organism ≡ next = cc in
-          subst (λ (n : OrganismState). n.merit ≤ 2 ^ 38) here bounded.merit);
+          rw (← here) bounded.merit);
     }
 
     by : (b : Bool) (slot : Option Occupant) → IsBoundedIn update slot
@@ -207,7 +198,7 @@ module _ {config : ConfigValues} {update : ℕ} {cells : List (Option Occupant)}
       → (place : ℕ)
       → GoesOn (get_or os place None) (get_or left place None)
   goes-on left are keep place =
-      subst (GoesOn (get_or os place None)) (sym stays)
+      rw stays
       (goes-by (get_or os place None) (get_or ids place 0) (get_or lives place no_life)
       (keep place).0 ((keep place).1
       ∙ ap (λ (cells : List (Option Occupant)). occupant_genome (get_or cells place None))
