@@ -1,5 +1,5 @@
 -- Somebody comes into a cell: a founder, or who stood there in a saved world.
-use Rattle.std.proofs.Common.{◌≡◌, ◌∙◌, refl, ap, ℕ, zero, suc, ◌+◌, ◌<◌, ◌≤◌, ◌^◌, List, [], ◌∷◌, ◌++◌, Option, None, Some, length, replicate, set, slice_get, arith}
+use Rattle.std.proofs.Common.{◌≡◌, ◌∙◌, refl, ap, ℕ, zero, suc, ◌+◌, ◌<◌, ◌≤◌, ◌^◌, List, [], ◌∷◌, ◌++◌, None, Some, length, replicate, set, slice_get, arith}
 use Rattle.std.proofs.lemmas.List.{length-set, length_push}
 use Rattle.std.specs.Option.{option_to_list}
 use Rattle.genome.specs.Genome.{letters}
@@ -44,9 +44,7 @@ pub put_over_is : (before died last : SceneValue) (cell : ℕ) (o : Occupant)
     → last ≡ record died { cells = set died.cells cell (Some o) }
     → last ≡ with_occupant before cell o
 put_over_is before died last cell o gone came =
-    came ∙ ap (λ (s : SceneValue). record s { cells = set s.cells cell (Some o) }) gone
-    ∙ ap (λ (cells : List (Option Occupant)).
-    record (left_scene before cell) { cells = cells }) (set_over before.cells cell None (Some o))
+    rw (came, gone, set_over before.cells cell None (Some o))
 
 -- the scene once somebody with this link is one of all, and the bank is another one
 abbrev pub enrolled : SceneValue → Link → List (List Letter) → SceneValue
