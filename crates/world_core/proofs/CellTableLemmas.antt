@@ -1,6 +1,7 @@
 -- Organisms beside their ids, as one cell changes.
 use Rattle.std.proofs.Common.{◌≡◌, ◌∙◌, ◌<◌, refl, sym, ap, ℕ, zero, suc, List, [], ◌∷◌, length, map, set, get_or, replicate, Option, Some, None, arith}
-use Rattle.std.proofs.lemmas.List.{get_or-map, get_or_read, length-map, length-replicate, length-set, map-set}
+use Rattle.std.proofs.Math.ListN.{get_or-map}
+use Rattle.std.proofs.lemmas.List.{get_or_read, length-map, length-replicate, length-set, map-set}
 use Rattle.cell_shards.specs.CellLives.{standing_in, standing_of}
 use Rattle.cell_shards.specs.declared.standing.Standing.{Standing}
 use Rattle.organism.specs.Image.{organism_of_image}
@@ -15,6 +16,7 @@ use Rattle.world_core.specs.CellTables.{AreKeptBeside, occupants_of}
 use Rattle.world_core.specs.Population.{merit_or_zero}
 use Rattle.world_core.specs.Resumed.{IsResident}
 use Rattle.world_core.specs.declared.cell_table.CellTable.TheInside.{Inside}
+use Rattle.world_core.proofs.SumLemmas.{map-replicate}
 
 -- there are as many cells as organisms and gaps
 pub occupants_of-length : (os : List (Option OrganismState)) (ids : List ℕ) → length ids ≡ length os
@@ -63,18 +65,13 @@ occupants_of-none (suc n) [] long = absurd (omega (arith, long))
 occupants_of-none (suc n) (id ∷ ids) long =
     ap (λ rest. None ∷ rest) (occupants_of-none n ids (omega (arith, long)))
 
--- where nobody stands nothing is counted
-counted-none : (n : ℕ) → map standing_in (replicate n None) ≡ replicate n None
-counted-none zero = refl
-counted-none (suc n) = ap (λ rest. None ∷ rest) (counted-none n)
-
--- and that is kept
+-- where nobody stands nothing is counted, and that is kept
 pub AreKeptBeside-none : (n : ℕ) (os : List (Option OrganismState)) (ids : List ℕ)
     (standings : List (Option Standing)) → os ≡ replicate n None → length ids ≡ n
     → standings ≡ replicate n None → AreKeptBeside os ids standings
 AreKeptBeside-none n os ids standings empty many untold = record {
   long = rw empty (many ∙ sym (length-replicate {A = Option OrganismState} n None));
-  counted = rw empty (untold ∙ sym (counted-none n));
+  counted = rw empty (untold ∙ sym (map-replicate standing_in n None));
 }
 
 -- beside a cell that changes is kept what is counted of who stands there now
@@ -144,8 +141,7 @@ module _ (r : Inside) (cell : ℕ) {cells : List (Option Occupant)} (within : ce
             found None,
         beside.counted,
       )
-      (get_or-map standing_in r.organisms.items cell None None
-      (omega (arith, has_slot, r.organisms.ok.0)))
+      (get_or-map standing_in r.organisms.items cell None)
 
   -- the id
   pub read-id : (id : ℕ) → id ≡ get_or r.ids.items cell id → id ≡ get_or r.ids.items cell 0

@@ -1,6 +1,7 @@
 -- What is kept of who stands in the cells, as one of them changes.
-use Rattle.std.proofs.Common.{◌≡◌, ◌∙◌, refl, sym, ap, Result, Ok, Err, OnOk, ℕ, zero, suc, ◌∷◌, ◌<◌, ◌≤◌, ◌^◌, List, [], length, set, get_or, Option, Some, None, is_some, replicate, arith}
-use Rattle.std.proofs.lemmas.List.{get_or-map, get_or_read, map-set, length-map, set-get_or}
+use Rattle.std.proofs.Common.{◌≡◌, ◌∙◌, sym, ap, Result, Ok, Err, OnOk, ℕ, ◌<◌, ◌≤◌, ◌^◌, List, [], length, set, get_or, Option, Some, None, is_some, replicate, arith}
+use Rattle.std.proofs.Math.ListN.{get_or-map}
+use Rattle.std.proofs.lemmas.List.{get_or_read, map-set, length-map, set-get_or}
 use Rattle.std.specs.Prelude.{OnErr, slice_get}
 use Rattle.std.proofs.lemmas.List.Sums.{count_by-le-length}
 use Rattle.census.specs.Changes.{CanAdd, CanRemove, HasOneFewer, HasOneMore}
@@ -12,12 +13,7 @@ use Rattle.genotype_bank.specs.BankHistory.{with_genome}
 use Rattle.world_core.specs.Population.{IsKeptOf, AreDifferent, AreSummedIn, occupant_genome, occupant_genomes}
 use Rattle.world_core.proofs.ChangeLemmas.{AreCountedIn-put, AreCountedIn-removed}
 use Rattle.world_core.proofs.StandingLemmas.{OneList, AreCountedIn-more, AreCountedIn-none, some-counted, with_genome-prefix}
-use Rattle.world_core.proofs.SumLemmas.{AreSummedIn-none, AreSummedIn-put, AreSummedIn-removed, credited-counted, merit-counted, merit-room, tasks-room}
-
--- where nobody stands no genome does
-nobody : (n : ℕ) → occupant_genomes (replicate n None) ≡ replicate n None
-nobody zero = refl
-nobody (suc n) = ap (λ slots. None ∷ slots) (nobody n)
+use Rattle.world_core.proofs.SumLemmas.{AreSummedIn-none, AreSummedIn-put, AreSummedIn-removed, credited-counted, map-replicate, merit-counted, merit-room, tasks-room}
 
 -- nobody stands anywhere
 pub IsKeptOf-none : (n : ℕ) (cells : List (Option Occupant)) (genomes : List (List Letter))
@@ -27,7 +23,7 @@ pub IsKeptOf-none : (n : ℕ) (cells : List (Option Occupant)) (genomes : List (
 IsKeptOf-none n cells genomes keys counts empty unnumbered long nothing few =
     rw (empty, unnumbered, nothing) (record {
       different = λ number other genome is has. cc;
-      genotypes = rw (nobody n) (AreCountedIn-none n keys long);
+      genotypes = rw (map-replicate occupant_genome n None) (AreCountedIn-none n keys long);
       sums = AreSummedIn-none n few;
     })
 
@@ -43,8 +39,7 @@ key-read cells genomes keys counts cell key kept within read =
 standing-at : (cells : List (Option Occupant)) (cell : ℕ) → cell < length cells
     → get_or (occupant_genomes cells) cell None ≡ occupant_genome (get_or cells cell None)
 standing-at cells cell within =
-    get_or-map occupant_genome cells cell None None
-    (omega (arith, within, length-map cells occupant_genome))
+    get_or-map occupant_genome cells cell None
 
 -- the key of a cell is the number of the genome that stands there
 pub key-is : (cells : List (Option Occupant)) (genomes : List (List Letter)) (keys : List ℕ)

@@ -1,5 +1,5 @@
 -- The sums over the cells, as one of them changes.
-use Rattle.std.proofs.Common.{◌≡◌, ◌∙◌, refl, sym, ap, ℕ, ◌+◌, ◌-◌, ◌*◌, ◌<◌, ◌≤◌, ◌^◌, Bool, true, false, cond, List, [], ◌∷◌, length, map, set, get_or, Option, Some, None, replicate, get_or-set_same, lt-length-set, set-set, arith}
+use Rattle.std.proofs.Common.{◌≡◌, ◌∙◌, refl, sym, ap, ℕ, zero, suc, ◌+◌, ◌-◌, ◌*◌, ◌<◌, ◌≤◌, ◌^◌, Bool, true, false, cond, List, [], ◌∷◌, length, map, set, get_or, Option, Some, None, replicate, get_or-set_same, lt-length-set, set-set, arith}
 use Rattle.std.specs.Prelude.{slice_index}
 use Rattle.std.specs.Int.{from_bool}
 use Rattle.std.specs.List.{All, count_by}
@@ -22,6 +22,12 @@ pub map_alike : {A B : Type 0} (f g : A → B) → ((a : A) → f a ≡ g a) →
     → map f xs ≡ map g xs
 map_alike f g alike [] = refl
 map_alike f g alike (x ∷ xs) = λ i. alike x i ∷ map_alike f g alike xs i
+
+-- what a function makes of one thing that stands everywhere
+pub map-replicate : {A B : Type 0} (f : A → B) (n : ℕ) (x : A)
+    → map f (replicate n x) ≡ replicate n (f x)
+map-replicate f zero x = refl
+map-replicate f (suc n) x = ap (λ rest. f x ∷ rest) (map-replicate f n x)
 
 -- what stands at the place of a task in a list of one number a task
 pub at_task : (f : Task → ℕ) (task : Task)
