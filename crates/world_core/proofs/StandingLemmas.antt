@@ -6,10 +6,9 @@ use mathlib.Core.List.{IsPrefix}
 use Rattle.std.specs.List.{count_by, list_any}
 use Rattle.std.specs.Option.{option_map, unwrap_or}
 use Rattle.std.proofs.lemmas.Bool.{cases_Bool, cases_lt}
-use Rattle.std.proofs.lemmas.List.{length-replicate, get_or-replicate}
+use Rattle.std.proofs.lemmas.List.{length-replicate}
 use Rattle.std.proofs.lemmas.List.Folds.{sum_by-replicate}
 use Rattle.std.proofs.lemmas.List.Sums.{sum_by-cons, get_or-le-sum_by}
-use Rattle.std.proofs.Math.ListN.{get_or-eq_default}
 use Rattle.census.specs.Counts.{GenotypeCount, genotype_at}
 use Rattle.census.specs.Changes.{count_under, genome_under}
 use Rattle.instruction_set.specs.declared.letter.Letter.{Letter}
@@ -40,27 +39,24 @@ is_found (Some g) some = (g, refl)
 pub apart : {X : Type 0} (found : Option X) (x : X) → found ≡ None → found ≡ Some x → ⊥
 apart found x none some = cc
 
+-- nobody stands in such cells
+pub nobody : {X : Type 0} (n cell : ℕ)
+    → get_or (replicate {A = Option X} n None) cell None ≡ None
+nobody zero cell = refl
+nobody (suc n) zero = refl
+nobody (suc n) (suc cell) = nobody n cell
+
 -- nobody stands anywhere, and no genome has a number
 pub AreCountedIn-none : (n : ℕ) (keys : List ℕ) → length keys ≡ n
     → AreCountedIn (replicate n None) [] keys []
 AreCountedIn-none n keys long = record {
   size = long ∙ sym (length-replicate {A = Option (List Letter)} n None);
-  keyed = λ cell genome is. absurd (nobody cell genome is);
+  keyed = λ cell genome is. absurd (apart _ genome (nobody n cell) is);
   named = λ number genotype is. cc;
   counted = λ number genome is. cc;
   living =
       omega (arith, sum_by-replicate (λ (slot : Option (List Letter)). one (is_some slot)) n None);
 }
-  where
-    nobody : (cell : ℕ) (genome : List Letter) → get_or (replicate n None) cell None ≡ Some genome
-        → ⊥
-    nobody cell genome is = elim (cases_lt cell n) [
-      | inl within ↦ apart _ genome
-          (get_or-replicate {A = Option (List Letter)} n cell None None within) is
-      | inr past ↦ apart _ genome
-          (get_or-eq_default (replicate n None) None {n = cell}
-          (omega (arith, past, length-replicate {A = Option (List Letter)} n None))) is
-    ]
 
 -- a genome keeps its number where others come behind
 pub prefix-stays : (early late : List (List Letter)) (number : ℕ) (genome : List Letter)
