@@ -1,8 +1,8 @@
 -- What the shards leave is what a world's lives leave.
-use Rattle.std.proofs.Common.{◌≡◌, ◌∙◌, refl, sym, ap, ℕ, ◌+◌, ◌<◌, ◌≤◌, ◌^◌, ◌⊎◌, Bool, true, false, cond, List, [], ◌∷◌, length, map, get_or, Option, Some, None, arith, inl, inr}
+use Rattle.std.proofs.Common.{◌≡◌, ◌∙◌, refl, sym, ap, ℕ, ◌+◌, ◌<◌, ◌≤◌, ◌^◌, Bool, true, false, cond, List, [], ◌∷◌, length, map, get_or, Option, Some, None, arith}
 use Rattle.std.specs.List.{All, range_with_len, flat_map, enumerate_from}
-use Rattle.std.proofs.lemmas.Bool.{cases_lt}
-use Rattle.std.proofs.lemmas.List.{get_or-map, get_or_past, length-map, map-id}
+use Rattle.std.proofs.Math.ListN.{get_or-map}
+use Rattle.std.proofs.lemmas.List.{length-map, map-id}
 use Rattle.std.proofs.lemmas.List.Elements.{All-cons, All-head, All-map, All-nil, All-tail}
 use Rattle.std.proofs.lemmas.List.FromFn.{length-map-range_with_len}
 use Rattle.cell_shards.specs.CellLives.{IsYoung, RoundNumbers, births_from, dead_in, deaths_from, left_in, newborns_in, part_from, shard_life_at, shard_life_of, shard_lives_of, standing_in}
@@ -204,16 +204,9 @@ module _ {config : ConfigValues} {update : ℕ} {cells : List (Option Occupant)}
       ∙ ap (λ (cells : List (Option Occupant)). occupant_genome (get_or cells place None))
       (sym apart.were) ∙ ap occupant_genome (occupants_of-at os ids place apart.long)))
     where
-      here : (place < length lives) ⊎ (length lives ≤ place)
-          → get_or (map staying_in lives) place None ≡ staying_in (get_or lives place no_life)
-      here (inl within) = get_or-map staying_in lives place no_life None within
-      here (inr past) = get_or_past (map staying_in lives) place None
-          (omega (arith, past, length-map lives staying_in))
-          ∙ sym (ap staying_in (get_or_past lives place no_life past))
-
       stays : get_or left place None ≡ organism_in (staying_in (get_or lives place no_life))
       stays = sym (organism-with (get_or ids place 0) (get_or left place None))
           ∙ ap organism_in (sym (occupants_of-at left ids place (lived-length left are))
           ∙ ap (λ (cells : List (Option Occupant)). get_or cells place None)
           (lived-cells left are)
-          ∙ here (cases_lt place (length lives)))
+          ∙ get_or-map staying_in lives place no_life)

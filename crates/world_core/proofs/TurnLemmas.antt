@@ -1,6 +1,7 @@
 -- A turn of the count after lives, over what is read of the cell.
 use Rattle.std.proofs.Common.{◌≡◌, ◌∙◌, sym, ap, ℕ, ◌+◌, ◌<◌, ◌≤◌, List, length, map, get_or, Option, None, arith}
-use Rattle.std.proofs.lemmas.List.{get_or-map, get_or_read, length-map}
+use Rattle.std.proofs.Math.ListN.{get_or-map}
+use Rattle.std.proofs.lemmas.List.{get_or_read, length-map}
 use Rattle.cell_shards.specs.CellLives.{RoundNumbers, left_in, part_from, shard_lives_of, standing_in}
 use Rattle.cell_shards.specs.declared.standing.Standing.{Standing}
 use Rattle.census.specs.Counts.{Counts}
@@ -38,7 +39,7 @@ counted-at os standings cell read within are found =
     get_or_read standings cell read
     (omega (arith, within, ap length are, length-map os standing_in)) found None
     ∙ ap (λ ss. get_or ss cell None) are
-    ∙ get_or-map standing_in os cell None None within
+    ∙ get_or-map standing_in os cell None
 
 module _ {config : ConfigValues} {update : ℕ} {cells : List (Option Occupant)}
     {os : List (Option OrganismState)} {ids slices : List ℕ} {round : RoundNumbers}
