@@ -1,5 +1,5 @@
 -- Cells in which each organism is bounded.
-use Rattle.std.proofs.Common.{◌^◌, ◌≡◌, refl, ap, ℕ, zero, suc, ◌<◌, ◌≤◌, List, [], ◌∷◌, Option, None, Some, replicate, arith}
+use Rattle.std.proofs.Common.{◌^◌, ◌≡◌, set-set, ℕ, ◌<◌, ◌≤◌, List, [], Option, None, Some, replicate, arith}
 use Rattle.std.proofs.Math.ListN.{set}
 use Rattle.std.proofs.lemmas.List.Elements.{All-replicate, All-set}
 use Rattle.world_rules.specs.World.{Occupant}
@@ -24,6 +24,4 @@ AreBounded_gone update cells cell sound = All-set (IsBoundedIn update) cells cel
 
 -- what is put over something stands there alone
 pub set_over : {X : Type 0} (xs : List X) (i : ℕ) (x y : X) → set (set xs i x) i y ≡ set xs i y
-set_over [] i x y = refl
-set_over (z ∷ zs) zero x y = refl
-set_over (z ∷ zs) (suc i) x y = ap (λ rest. z ∷ rest) (set_over zs i x y)
+set_over xs i x y = set-set xs i x y

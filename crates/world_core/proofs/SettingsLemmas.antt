@@ -1,5 +1,5 @@
 -- The rates that the events of a configuration set.
-use Rattle.std.proofs.Common.{◌≡◌, ◌∙◌, ℕ, ◌<◌, ◌≤◌, ◌&&◌, nat_le, nat_lt, true, List, length, get_or, map, filter, fold, sym, ap, subst}
+use Rattle.std.proofs.Common.{◌≡◌, ◌∙◌, ℕ, ◌<◌, ◌≤◌, ◌&&◌, nat_le, nat_lt, true, List, length, get_or, map, filter, fold, sym, ap}
 use Rattle.std.specs.List.{AllPass}
 use Rattle.std.proofs.lemmas.Bool.{leb-true, and_parts}
 use Rattle.std.proofs.lemmas.List.{get_or-map, length-map}
@@ -23,8 +23,7 @@ pub rate-fits : (frame : Frame) (events items : List Event) (i : ℕ) (e : Event
     (ppm : ℕ) → AllPass (event_fits frame) (event_values events) → items ≡ events → i < length items
     → e ≡ get_or items i e → e.what ≡ Rate name ppm → ppm ≤ 1000000
 rate-fits frame events items i e name ppm fit same within here is =
-    let all : AllPass (event_fits frame) (event_values items) =
-    subst (λ (xs : List Event). AllPass (event_fits frame) (event_values xs)) (sym same) fit in
+    let all : AllPass (event_fits frame) (event_values items) = rw same fit in
     let long : i < length (event_values items) = rw length-map within in
     let passes = All-get_or (λ x. event_fits frame x ≡ true) (event_values items) i
     (event_value e) long all in
