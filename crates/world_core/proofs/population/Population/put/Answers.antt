@@ -1,8 +1,6 @@
-use Rattle.std.proofs.Common.{◌≡◌, get_or, subst, sym, List, ℕ, None, Some, length, ◌<◌}
+use Rattle.std.proofs.Common.{◌≡◌, get_or, List, ℕ, None, Some, length, ◌<◌}
 use Rattle.std.specs.Prelude.{slice_get}
 use Rattle.instruction_set.specs.declared.letter.Letter.{Letter}
-use Rattle.census.specs.Changes.{HasOneMore}
-use Rattle.genome.specs.Genome.{letters}
 use Rattle.world_rules.specs.World.{Occupant}
 use Rattle.world_core.specs.Population.{PopulationValue}
 use Rattle.world_core.proofs.KeptOfLemmas.{IsKeptOf-put, can-add}
@@ -18,9 +16,8 @@ record HasRoom (p : PopulationValue) (cell number : ℕ) (genome : List Letter) 
 room_inside : {inside now : PopulationValue} {cell number : ℕ} {genome : List Letter}
     → inside ≡ now → cell < length now.cells → get_or now.cells cell None ≡ None
     → slice_get now.bank number ≡ Some genome → HasRoom inside cell number genome
-room_inside {cell = cell} {number = number} {genome = genome} is within empty number_is =
-    subst (λ p. HasRoom p cell number genome) (sym is)
-    (record { within = within; empty = empty; number_is = number_is })
+room_inside is within empty number_is =
+    rw is (record { within = within; empty = empty; number_is = number_is })
 
 pub add-requires : goal.add-requires
 add-requires c =
@@ -40,7 +37,4 @@ invariant_of-self-2 c =
     rw c.put.ensures (IsKeptOf-put c.one_index.ensures.list c.self.inside.cells
     c.self.inside.genotypes c.self.inside.keys.items before c.add.new.self c.args.cell room.within
     o number room.number_is room.empty c.requires.merit c.self.invariant
-    (subst (λ genome. HasOneMore before c.add.new.self number genome c.args.organism.merit
-    c.args.organism.credited) c.genome.ensures
-    (subst (λ standing. HasOneMore before c.add.new.self number (letters c.genome.result.now.value)
-    standing.merit standing.credited) c.standing-standing.ensures c.in_ok-add.ensures.ok)))
+    (rw (c.genome.ensures, c.standing-standing.ensures) at c.in_ok-add.ensures.ok))

@@ -1,8 +1,7 @@
-use Rattle.std.proofs.Common.{◌≡◌, ◌∙◌, List, Option, ap, subst, sym, get_or, None, length, ◌<◌}
-use Rattle.census.specs.Changes.{HasOneFewer}
+use Rattle.std.proofs.Common.{◌≡◌, ◌∙◌, List, Option, ap, sym, get_or, None, length, ◌<◌}
 use Rattle.world_rules.specs.Statistics.{organism_in}
 use Rattle.world_rules.specs.World.{Occupant}
-use Rattle.world_core.specs.Population.{IsKeptOf, PopulationValue}
+use Rattle.world_core.specs.Population.{PopulationValue}
 use Rattle.world_core.proofs.CellTableLemmas.{nobody, somebody}
 use Rattle.world_core.proofs.KeptOfLemmas.{IsKeptOf-empty, IsKeptOf-removed, can-remove, key-read}
 use Rattle.world_core.proofs.population.Population.take.Goals.{in-Some, in_default}
@@ -34,26 +33,18 @@ invariant_of-self c =
           (sym c.standing_at.ensures ∙ w.in-Some.is) in
           let key = key-read cells c.self.inside.genotypes c.self.inside.keys.items before
           c.args.cell w.index-key.result.now c.self.invariant within w.index-key.ensures in
-          rw w.self-inside-is (subst
-          (λ (cells : List (Option Occupant)).
-          IsKeptOf cells c.self.inside.genotypes c.self.inside.keys.items w.remove.new.self)
-          (sym (rw w.self-inside-is at c.take.ensures.after))
-          (IsKeptOf-removed c.one_index.ensures.list cells c.self.inside.genotypes
+          let after = rw w.self-inside-is at c.take.ensures.after in
+          rw (w.self-inside-is, after) (IsKeptOf-removed c.one_index.ensures.list cells c.self.inside.genotypes
           c.self.inside.keys.items before w.remove.new.self c.args.cell within who.0
           c.self.invariant who.1
-          (subst (λ k. HasOneFewer before w.remove.new.self k who.0.organism.merit
-          who.0.organism.credited) key
-          (subst (λ standing. HasOneFewer before w.remove.new.self w.index-key.result.now
-          standing.merit standing.credited) (sym who.2) w.remove.ensures))))
+          (rw (key, sym who.2) at w.remove.ensures))
       | in_default w ↦
           let empty = nobody (get_or cells c.args.cell None)
           (sym c.standing_at.ensures ∙ w.in_default.is) in
-          rw w.self-inside-is (subst
-          (λ (cells : List (Option Occupant)).
-          IsKeptOf cells c.self.inside.genotypes c.self.inside.keys.items before)
-          (sym (rw w.self-inside-is at c.take.ensures.after))
-          (IsKeptOf-empty c.one_index.ensures.list cells c.self.inside.genotypes
-          c.self.inside.keys.items before before c.args.cell within empty c.self.invariant))
+          let after = rw w.self-inside-is at c.take.ensures.after in
+          rw (w.self-inside-is, after) (IsKeptOf-empty c.one_index.ensures.list cells
+          c.self.inside.genotypes c.self.inside.keys.items before before c.args.cell within empty
+          c.self.invariant)
     ]
 
 pub returns-clause-who : goal.returns-clause-who
