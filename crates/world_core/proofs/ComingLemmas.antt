@@ -1,5 +1,5 @@
 -- Somebody comes into a cell: a founder, or who stood there in a saved world.
-use Rattle.std.proofs.Common.{◌≡◌, ◌∙◌, refl, ap, ℕ, zero, suc, ◌+◌, ◌<◌, ◌≤◌, ◌^◌, List, [], ◌∷◌, ◌++◌, None, Some, length, replicate, set, slice_get, arith}
+use Rattle.std.proofs.Common.{◌≡◌, ◌∙◌, refl, ap, ℕ, ◌+◌, ◌<◌, ◌≤◌, ◌^◌, List, [], ◌∷◌, ◌++◌, Option, None, Some, length, set, slice_get, arith}
 use Rattle.std.proofs.lemmas.List.{length-set, length_push}
 use Rattle.std.specs.Option.{option_to_list}
 use Rattle.genome.specs.Genome.{letters}
@@ -12,10 +12,11 @@ use Rattle.virtual_cpu.specs.Image.{machine_of_image}
 use Rattle.world_config.specs.Values.{ConfigValues}
 use Rattle.world_rules.specs.Scene.{Scene, with_death, with_newcomer}
 use Rattle.world_rules.specs.Update.{world_of}
-use Rattle.world_rules.specs.World.{Occupant, empty_cells, first_world, founder_link, founder_of, id_at}
+use Rattle.world_rules.specs.World.{Occupant, empty_cells, first_world, founder_link, founder_of, id_at, id_of}
 use Rattle.world_core.specs.Bounds.{CanStand}
 use Rattle.world_core.specs.Scenes.{SceneValue, scene_in, with_occupant}
 use Rattle.world_core.proofs.BoundedCells.{set_over}
+use Rattle.world_core.proofs.StandingLemmas.{nobody}
 
 -- the scene once who stood in the cell has died
 abbrev pub left_scene : SceneValue → ℕ → SceneValue
@@ -123,14 +124,9 @@ pub first_world_is : (config : ConfigValues)
 unfolding with_newcomer first_world
 first_world_is config = refl
 
--- nobody stands in such cells
-nobody-at : (count cell : ℕ) → id_at (replicate count None) cell ≡ None
-nobody-at zero cell = refl
-nobody-at (suc count) zero = refl
-nobody-at (suc count) (suc cell) = nobody-at count cell
-
--- so nobody dies
+-- nobody dies when the founder comes
 pub nobody_gone : (config : ConfigValues) (link : Link) (organism : OrganismState)
     → (with_newcomer (scene_in (empty_scene config)) link organism).gone ≡ []
 unfolding with_newcomer
-nobody_gone config link organism = ap option_to_list (nobody-at _ link.cell)
+nobody_gone config link organism =
+    ap (λ (slot : Option Occupant). option_to_list (id_of slot)) (nobody _ link.cell)
