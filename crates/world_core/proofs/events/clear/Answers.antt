@@ -1,10 +1,7 @@
-use Rattle.std.proofs.Common.{◌≡◌, ◌∙◌, ap, sym, ◌+◌, ◌-◌, ◌++◌, ◌<◌, ◌≤◌, length, get_or, take, arith}
-use Rattle.std.specs.List.{scan, filter_map}
-use Rattle.std.specs.Option.{option_to_list}
+use Rattle.std.proofs.Common.{◌≡◌, ◌∙◌, ap, sym, ◌+◌, ◌-◌, ◌<◌, ◌≤◌, length, get_or, take, arith}
 use Rattle.std.proofs.lemmas.List.{take_all}
 use Rattle.std.proofs.lemmas.List.FromFn.{length-range_with_len, get_or-range_with_len}
 use Rattle.std.proofs.lemmas.List.Sums.{fold_more}
-use Rattle.lineage_log.specs.LogGrammar.{lines_text}
 use Rattle.log_lines.specs.LineText.{line_text}
 use Rattle.world_rules.specs.LogText.{cleared_line}
 use Rattle.world_rules.specs.Scene.{cells_from, with_death, with_deaths}
@@ -30,17 +27,12 @@ loop-cell-preserved c =
     let scene = turn.scene ∙ ap (λ s. with_death s c.loop-cell.cell) before.scene
     ∙ ap (with_death (with_deaths first (take i cells))) (sym here)
     ∙ sym (fold_more with_death first cells i 0 within) in
-    let one = c.in_ok-tell_clearing.ensures
-    ∙ ap (λ cell. c.loop-cell.text.items
-    ++ lines_text (option_to_list (cleared_line (scene_in c.loop-cell.scene) cell)))
-    (sym here) in
+    let one = rw (← here) at c.in_ok-tell_clearing.ensures in
     let text = told-step with_death line_text first cells i 0 within c.args.text.now.items
     cleared_line before.scene before.text one in
     record {
-      scene = scene ∙ ap (λ n. with_deaths first (take n cells)) next;
-      text = text ∙ ap (λ n. c.args.text.now.items
-          ++ lines_text (filter_map (λ line. line)
-          (scan with_death cleared_line first (take n cells)))) next;
+      scene = rw next at scene;
+      text = rw next at text;
       size = turn.size ∙ before.size;
       everyone = turn.everyone ∙ before.everyone;
       first = turn.first ∙ before.first;
@@ -51,18 +43,12 @@ pub returns-clause-scene : goal.returns-clause-scene
 returns-clause-scene c =
     let cells = cells_from c.args.first c.args.last in
     let i = c.loop-cell.cell - c.args.first in
-    c.loop-cell.invariant.scene
-    ∙ ap (with_deaths (scene_in c.args.scene.now))
-    (take_all i cells (omega
-    (arith, length-range_with_len c.args.first (c.args.last + 1 - c.args.first))))
+    let many = length-range_with_len c.args.first (c.args.last + 1 - c.args.first) in
+    rw (take_all i cells (omega (arith, many))) at c.loop-cell.invariant.scene
 
 pub returns-clause-text : goal.returns-clause-text
 returns-clause-text c =
     let cells = cells_from c.args.first c.args.last in
     let i = c.loop-cell.cell - c.args.first in
-    c.loop-cell.invariant.text
-    ∙ ap (λ cells. c.args.text.now.items
-    ++ lines_text (filter_map (λ line. line)
-    (scan with_death cleared_line (scene_in c.args.scene.now) cells)))
-    (take_all i cells (omega
-    (arith, length-range_with_len c.args.first (c.args.last + 1 - c.args.first))))
+    let many = length-range_with_len c.args.first (c.args.last + 1 - c.args.first) in
+    rw (take_all i cells (omega (arith, many))) at c.loop-cell.invariant.text
