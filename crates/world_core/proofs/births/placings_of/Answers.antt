@@ -1,7 +1,6 @@
-use Rattle.std.proofs.Common.{◌≡◌, ◌∙◌, ◌<◌, ◌*◌, ℕ, get_or, length, subst, sym, arith, ap, map}
-use Rattle.std.specs.List.Sorted.{IsNonDecreasing}
+use Rattle.std.proofs.Common.{◌≡◌, ◌∙◌, ◌<◌, ◌*◌, ℕ, length, sym, arith, ap}
 use Rattle.std.proofs.lemmas.List.{length-map}
-use Rattle.std.proofs.lemmas.List.Elements.{All-map, All-same}
+use Rattle.std.proofs.lemmas.List.Elements.{All-map}
 use Rattle.birth_board.specs.declared.placing_round.PlacingRound.{PlacingRound}
 use Rattle.birth_board.specs.Torus.{TorusNumbers}
 use Rattle.world_config.specs.Shown.{values_of}
@@ -34,11 +33,9 @@ place-requires c =
       cells = ap length c.in_ok-board.ensures ∙ length-map c.cells.result.now id_of
           ∙ ap length c.cells.ensures.cells
           ∙ ap (λ (s : SceneValue). length s.cells) c.scene.view_is ∙ same;
-      in_torus = All-same below parents (map _ births) c.in_ok-parents.ensures
-          (All-map below _ births (λ k d within.
-          subst (λ (n : ℕ). (get_or births k d).newborn.cell < n) same (fit k d within).cell));
-      rising = subst IsNonDecreasing
-          (map-both delivery_in (λ (d : Delivery). d.cell) births ∙ sym c.in_ok-parents.ensures)
+      in_torus = rw c.in_ok-parents.ensures
+          (All-map below _ births (λ k d within. rw (← same) (fit k d within).cell));
+      rising = rw (c.in_ok-parents.ensures, ← map-both delivery_in (λ (d : Delivery). d.cell) births)
           c.requires.births.rising;
       few = omega (arith, number, c.requires.births.few, length-map births delivery_in);
       ids = omega (
