@@ -23,13 +23,6 @@ read-set xs i k x d within = elim (cases_eq k i) [
   | inr other ↦ inr (other, get_or-set_other xs i k x d other)
 ]
 
--- one number has one genome
-one-genome : (genomes : List (List Letter)) (number key : ℕ) (other genome : List Letter)
-    → number ≡ key → slice_get genomes number ≡ Some other → slice_get genomes key ≡ Some genome
-    → other ≡ genome
-one-genome genomes number key other genome same there here =
-    let some : Some other ≡ Some genome = sym there ∙ ap (slice_get genomes) same ∙ here in cc
-
 -- how many stand in the cells once one of them has changed
 living-set : (standing : List (Option (List Letter))) (cell : ℕ) (was now : Option (List Letter))
     → cell < length standing → get_or standing cell None ≡ was
@@ -115,9 +108,8 @@ module _ (one_list : OneList) where
           ≡ Some g → slice_get genomes number ≡ Some g.genome
       named number g true true at is =
           let same : lowered genotypes key ≡ g = cc in
-          ap (slice_get genomes) (sym (eqb-true key number at))
-          ∙ genome-under one_list standing genomes keys genotypes key are least
-          ∙ ap (λ (g : GenotypeCount). Some g.genome) same
+          rw (← eqb-true key number at, ← same)
+          (genome-under one_list standing genomes keys genotypes key are least)
       named number g true false at is = cc
       named number g false b at is = are.named number g is
 
@@ -132,8 +124,8 @@ module _ (one_list : OneList) where
           (Some (lowered genotypes key)) None) (genotype_at genotypes number))
           ≡ cells_of (set standing cell None) g
       counted number g is true at =
-          let same = sym (eqb-true key number at) in
-          let one_genome = one-genome genomes number key g genome same is key_is in
+          let same = eqb-true key number at in
+          let one_genome : g ≡ genome = cc key_is in
           omega (
             arith,
             lower (nat_lt 1 (count_under genotypes key)) refl,
@@ -187,8 +179,7 @@ module _ (one_list : OneList) where
           → slice_get genomes number ≡ Some g.genome
       named number g true at is =
           let same : one_more ≡ g = cc in
-          ap (slice_get genomes) (sym (eqb-true key number at)) ∙ key_is
-          ∙ ap (λ (g : GenotypeCount). Some g.genome) same
+          rw (← eqb-true key number at, ← same) key_is
       named number g false at is = are.named number g is
 
       counted : (number : ℕ) (g : List Letter) → slice_get genomes number ≡ Some g → (a : Bool)
@@ -196,8 +187,8 @@ module _ (one_list : OneList) where
           → count_in (cond a (Some one_more) (genotype_at genotypes number))
           ≡ cells_of (set standing cell (Some genome)) g
       counted number g is true at =
-          let same = sym (eqb-true key number at) in
-          let one_genome = one-genome genomes number key g genome same is key_is in
+          let same = eqb-true key number at in
+          let one_genome : g ≡ genome = cc key_is in
           omega (
             arith,
             are.counted key genome key_is,
