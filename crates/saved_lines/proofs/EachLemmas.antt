@@ -1,5 +1,5 @@
 -- Items read one by one.
-use Rattle.std.proofs.Common.{◌≡◌, ℕ, ◌<◌, Bool, true, List, length, Some, None, sym, ap, ◌∙◌, arith, cond}
+use Rattle.std.proofs.Common.{◌≡◌, ℕ, ◌<◌, Bool, true, List, length, Some, refl, sym, arith}
 use Rattle.std.specs.Prelude.{nat_lt, option_and_then}
 use Rattle.std.proofs.lemmas.Bool.Decides.{nat_tests}
 use Rattle.log_lines.specs.Fields.{each}
@@ -12,5 +12,4 @@ pub marks_made : (word : List ℕ) (places : List Bool) → Some places ≡ each
 marks_made word places is some =
     let long : length places ≡ length word = each_length mark_of word places (sym is) in
     let any : nat_lt 0 (length places) ≡ true = grind (arith, nat_tests, long, some) in
-    sym (ap (λ (v : Bool). cond v (Some places) None) any)
-    ∙ ap (option_and_then if_any) is
+    rw (sym is, any) refl

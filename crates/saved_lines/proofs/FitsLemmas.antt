@@ -1,5 +1,5 @@
 -- The values of a line are in their ranges exactly where its fields fit its row.
-use Rattle.std.proofs.Common.{◌≡◌, ℕ, zero, suc, ◌<◌, ◌≤◌, ◌%◌, ◌^◌, Bool, true, false, List, [], ◌∷◌, length, refl, sym, subst, arith}
+use Rattle.std.proofs.Common.{◌≡◌, ℕ, zero, suc, ◌<◌, ◌≤◌, ◌%◌, ◌^◌, Bool, true, false, List, [], ◌∷◌, length, subst, arith}
 use Rattle.std.specs.List.{AllByRecursion}
 use Rattle.std.specs.Prelude.{nat_le, slice_index_or}
 use Rattle.std.proofs.Math.Nat.{mod-lt}
@@ -12,9 +12,9 @@ use Rattle.logic_tasks.specs.TaskBits.{bits_of_tasks}
 use Rattle.logic_tasks.specs.TaskBitsLaws.{number_of-small}
 use Rattle.virtual_cpu.specs.declared.cpu_image.CpuImage.{CpuImage}
 use Rattle.saved_lines.specs.SavedForms.{IsHead, IsMachineLine, IsOrganismLine}
-use Rattle.saved_lines.specs.SavedReading.{are_ordered}
+use Rattle.saved_lines.specs.SavedReading.{are_ordered, machine_at}
 use Rattle.saved_lines.specs.SavedRows.{AreWithin}
-use Rattle.saved_lines.specs.SavedTables.{head_ranges, machine_fields, machine_row, organism_row}
+use Rattle.saved_lines.specs.SavedTables.{MachineFields, head_ranges, machine_fields, machine_row, organism_row}
 use Rattle.saved_lines.specs.SavedText.{flag_number, head_numbers, organism_numbers}
 use Rattle.saved_lines.specs.SavedValues.{HeadValues, OrganismValues}
 
@@ -113,55 +113,21 @@ head_ordered head in_range = and_from (nat_le head.rules.least head.rules.greate
 pub head_is : (head : HeadValues) → AreWithin head_ranges (head_numbers head)
     → are_ordered head ≡ true → IsHead head
 head_is head numbers ordered =
-    let width = numbers.2 in
-    let height = width.2 in
-    let update = height.2 in
-    let next_id = update.2 in
-    let seed = next_id.2 in
-    let average_slices = seed.2 in
-    let death = average_slices.2 in
-    let age_limit = death.2 in
-    let copy = age_limit.2 in
-    let insert = copy.2 in
-    let delete = insert.2 in
-    let site_point = delete.2 in
-    let site_insert = site_point.2 in
-    let site_delete = site_insert.2 in
-    let prefer_empty = site_delete.2 in
-    let need_alloc = prefer_empty.2 in
-    let executed_percent = need_alloc.2 in
-    let copied_percent = executed_percent.2 in
-    let least = copied_percent.2 in
-    let greatest = least.2 in
-    let limit = greatest.2 in
     let order = and_parts (nat_le head.rules.least head.rules.greatest)
     (nat_le head.rules.greatest head.memory_limit) ordered in
+    let few = leb-true head.rules.least head.rules.greatest order.0 in
+    let fit = leb-true head.rules.greatest head.memory_limit order.1 in
     record {
-      width = (width.0, width.1);
-      height = (height.0, height.1);
-      update = update.1;
-      next_id = (next_id.0, next_id.1);
-      seed = omega (arith, seed.1);
-      average_slices = (average_slices.0, average_slices.1);
-      age_limit = (age_limit.0, age_limit.1);
-      rates = record {
-        copy = copy.1;
-        insert = insert.1;
-        delete = delete.1;
-        site_point = site_point.1;
-        site_insert = site_insert.1;
-        site_delete = site_delete.1;
-      };
-      rules = record {
-        long_enough = least.0;
-        ordered = leb-true head.rules.least head.rules.greatest order.0;
-        short_enough = greatest.1;
-        executed_is_asked = executed_percent.0;
-        executed_is_percent = executed_percent.1;
-        copied_is_asked = copied_percent.0;
-        copied_is_percent = copied_percent.1;
-      };
-      memory_limit = (leb-true head.rules.greatest head.memory_limit order.1, limit.1);
+      width = (omega arith, omega arith);
+      height = (omega arith, omega arith);
+      update = omega arith;
+      next_id = (omega arith, omega arith);
+      seed = omega arith;
+      average_slices = (omega arith, omega arith);
+      age_limit = (omega arith, omega arith);
+      rates = search arith;
+      rules = search arith;
+      memory_limit = (fit, omega arith);
     }
 
 -- ---- an organism
@@ -189,17 +155,13 @@ organism_fits o is =
 pub organism_is : (o : OrganismValues) → organism_row.Fits (organism_numbers o, o.genome)
     → length o.credited ≡ 9 → length o.gestation ≡ 9 → HasTopBytes o.inputs → IsOrganismLine o
 organism_is o fits credited gestation inputs =
-    let id = fits.0.2 in
-    let merit = id.2 in
-    let age = merit.2.2 in
-    let read = age.2 in
     record {
-      cell = omega (arith, fits.0.1);
-      id = omega (arith, id.1);
-      merit = omega (arith, merit.1);
+      cell = omega arith;
+      id = omega arith;
+      merit = omega arith;
       credited = credited;
-      age = omega (arith, age.1);
-      read = omega (arith, read.1);
+      age = omega arith;
+      read = omega arith;
       gestation = gestation;
       inputs = inputs;
       genome = genome_is o.genome fits.1;
@@ -220,56 +182,24 @@ machine_fits m is =
             ▸ up_to (head 3)
             ▸ up_to (flag_fits m.pending)
             ▸ tt,
-        (
-          is.nops,
-          (
-            is.first,
-            (
-              is.second,
-              (
-                length_fits m.memory is.memory,
-                (length_fits m.clean is.clean, (is.executed, is.copied)),
-              ),
-            ),
-          ),
-        ),
+        (is.nops, (is.first, (is.second, search length_fits))),
       ),
     )
 
--- a machine of four heads whose fields fit their row
-pub machine_is : (m : CpuImage) (ip read write flow : ℕ)
-    → m.heads ≡ ip ∷ read ∷ write ∷ flow ∷ [] → machine_row.Fits (machine_fields m)
-    → IsMachineLine m
-machine_is m ip read write flow heads fits =
-    let numbers = fits.1.0 in
-    let nops = fits.1.1 in
-    let first = nops.1 in
-    let second = first.1 in
-    let texts = second.1 in
-    let at = λ (k : ℕ) (low : slice_index_or m.heads k 0 ≤ 4294967295).
-    let small : slice_index_or (ip ∷ read ∷ write ∷ flow ∷ []) k 0 < 2 ^ 32 =
-    omega (arith, subst (λ (l : List ℕ). slice_index_or l k 0 ≤ 4294967295) heads low) in small in
-    let four : (length (ip ∷ read ∷ write ∷ flow ∷ []) ≡ 4)
-    × AllByRecursion (λ head. head < 2 ^ 32) (ip ∷ read ∷ write ∷ flow ∷ []) = (
-      refl,
-      (
-        at 0 numbers.2.1,
-        (
-          at 1 numbers.2.2.1,
-          (at 2 numbers.2.2.2.1, (at 3 numbers.2.2.2.2.1, tt)),
-        ),
-      ),
-    ) in
+-- a machine whose fields fit their row
+pub machine_is : (p : MachineFields) → machine_row.Fits (machine_fields (machine_at p))
+    → IsMachineLine (machine_at p)
+machine_is p fits =
+    let rest = fits.1.1.1.1.1 in
     record {
       registers = fits.0;
-      active = omega (arith, numbers.1);
-      heads = subst (λ (l : List ℕ). (length l ≡ 4) × AllByRecursion (λ head. head < 2 ^ 32) l)
-          (sym heads) four;
-      nops = nops.0;
-      first = first.0;
-      second = second.0;
-      memory = genome_is m.memory texts.0;
-      clean = genome_is m.clean texts.1.0;
-      executed = texts.1.1.0;
-      copied = texts.1.1.1;
+      active = omega arith;
+      heads = search arith;
+      nops = fits.1.1.0;
+      first = fits.1.1.1.0;
+      second = fits.1.1.1.1.0;
+      memory = genome_is (machine_at p).memory rest.0;
+      clean = genome_is (machine_at p).clean rest.1.0;
+      executed = rest.1.1.0;
+      copied = rest.1.1.1;
     }

@@ -1,10 +1,10 @@
 -- The mark of a line.
-use Rattle.std.proofs.Common.{◌≡◌, ℕ, false, List, [], ◌∷◌, length, get_or, None, refl, sym, ap, arith}
+use Rattle.std.proofs.Common.{◌≡◌, ℕ, false, List, [], ◌∷◌, length, get_or, None, refl, ap, arith}
 use Rattle.std.specs.Prelude.{◌==◌}
 use Rattle.std.specs.Str.{bytes_eq}
 use Rattle.std.specs.List.{slice_split}
 use Rattle.log_lines.proofs.FieldLaws.{not_equal}
-use Rattle.saved_lines.specs.SavedReading.{read_form, read_saved_words, saved_line_of}
+use Rattle.saved_lines.specs.SavedReading.{read_form, saved_line_of}
 
 -- a mark of another length
 no_mark : (mark : List ℕ) (b : ℕ) → (length mark ≡ 1 → ⊥) → bytes_eq mark (b ∷ []) ≡ false
@@ -27,4 +27,4 @@ one_byte (b ∷ c ∷ rest) one = absurd (omega (arith, one))
 pub line_is : (text mark : List ℕ) (words : List (List ℕ))
     → slice_split (λ b. b == 32) text ≡ mark ∷ words → read_form mark words ≡ saved_line_of text
 unfolding saved_line_of
-line_is text mark words is = ap read_saved_words (sym is)
+line_is text mark words is = rw is refl

@@ -1,6 +1,6 @@
 -- Words in front of a row: what is written is read again, and what is read was written so.
 use Rattle.std.proofs.Common.{◌≡◌, ℕ, zero, suc, ◌<◌, ◌≤◌, ◌^◌, List, [], ◌∷◌, ◌++◌, map, length, Option, Some, None, refl, sym, ap, subst, ◌∙◌, arith, decimal, append-nil}
-use Rattle.std.specs.Prelude.{option_and_then, option_map}
+use Rattle.std.specs.Prelude.{option_and_then}
 use Rattle.std.specs.List.{AllByRecursion}
 use Rattle.std.proofs.lemmas.Option.{some_pair_parts}
 use Rattle.numerals.specs.Numeral.{number_of}
@@ -9,7 +9,8 @@ use Rattle.log_lines.specs.Fields.{Field}
 use Rattle.log_lines.specs.Rows.{Row}
 use Rattle.log_lines.proofs.FieldLaws.{Above, IsField, IsRow, number_law, above_lower, some_map, some_then}
 use Rattle.saved_lines.specs.declared.range.Range.{Range}
-use Rattle.saved_lines.specs.SavedRows.{Front, with_item, read_several, several, read_within, AreWithin, within, if_last, whole, ◌◁◌}
+use Rattle.saved_lines.proofs.RangeLemmas.{read_are_within}
+use Rattle.saved_lines.specs.SavedRows.{Front, read_several, several, read_within, AreWithin, within, if_last, whole, ◌◁◌}
 
 -- what is written is read again, and what is read was written so, of bytes above c
 pub record IsFront {A : Type 0} (c : ℕ) (f : Front A) : Type 0 where
@@ -64,21 +65,15 @@ module _ {A : Type 0} (f : Field A) (c : ℕ) (law : IsField c f) where
       → read_several f.read count words ≡ Some (items, left) → Taken count words items left
   several_takes zero words left items is =
       let parts = some_pair_parts [] items words left is in
-      subst (λ (l : List A). Taken zero words l left) parts.0 (sym parts.1, (refl, tt))
+      rw (sym parts.0, parts.1) (refl, (refl, tt))
   several_takes (suc count) [] left items is = absurd cc
   several_takes (suc count) (word ∷ words) left items is =
-      let first = some_then (with_item (read_several f.read count words)) (f.read word)
-      (items, left) is in
-      let second = some_map (λ (p : List A × List (List ℕ)).
-      let q : List A × List (List ℕ) = (first.0 ∷ p.0, p.1) in q)
-      (read_several f.read count words) (items, left) first.2 in
+      let first = some_then _ (f.read word) (items, left) is in
+      let second = some_map _ (read_several f.read count words) (items, left) first.2 in
       let a = law.takes word first.0 first.1 in
       let others = several_takes count words second.0.1 second.0.0 second.1 in
-      subst (λ (p : List A × List (List ℕ)). Taken (suc count) (word ∷ words) p.0 p.1) second.2 (
-        ap (λ (w : List ℕ). w ∷ (map f.text second.0.0 ++ second.0.1)) a.0
-            ∙ ap (λ (ws : List (List ℕ)). word ∷ ws) others.0,
-        (ap suc others.1.0, (a.1, others.1.1)),
-      )
+      subst (λ (p : List A × List (List ℕ)). Taken (suc count) (word ∷ words) p.0 p.1) second.2
+      (rw (a.0, others.0) refl, (ap suc others.1.0, (a.1, others.1.1)))
 
   -- their bytes
   several_plain : (items : List A) → AllByRecursion f.Fits items
@@ -112,33 +107,20 @@ module _ (numbers : OneNumber) where
       let one = numbers.again range.least range.greatest n small.0 fits.0 fits.1 in
       rw (one, within_again ranges ns words small.1 fits.2) refl
 
-  -- these numbers were read
-  abbrev TakenWithin : List Range → List (List ℕ) → List ℕ → List (List ℕ) → Type 0
-  TakenWithin ranges words ns left =
-      (map (λ n. decimal n) ns ++ left ≡ words) × AreWithin ranges ns
-
   -- numbers that are read were written so
   within_takes : (ranges : List Range) (words left : List (List ℕ)) (ns : List ℕ)
       → AreSmall ranges → read_within ranges words ≡ Some (ns, left)
-      → TakenWithin ranges words ns left
+      → map (λ n. decimal n) ns ++ left ≡ words
   within_takes [] words left ns small is =
-      let parts = some_pair_parts [] ns words left is in
-      subst (λ (l : List ℕ). TakenWithin [] words l left) parts.0 (sym parts.1, tt)
+      let parts = some_pair_parts [] ns words left is in rw (sym parts.0, parts.1) refl
   within_takes (range ∷ ranges) [] left ns small is = absurd cc
   within_takes (range ∷ ranges) (word ∷ words) left ns small is =
-      let first = some_then (with_item (read_within ranges words))
-      (number_of range.least range.greatest word) (ns, left) is in
-      let second = some_map (λ (p : List ℕ × List (List ℕ)).
-      let q : List ℕ × List (List ℕ) = (first.0 ∷ p.0, p.1) in q) (read_within ranges words)
-      (ns, left) first.2 in
+      let first = some_then _ (number_of range.least range.greatest word) (ns, left) is in
+      let second = some_map _ (read_within ranges words) (ns, left) first.2 in
       let one = numbers.takes range.least range.greatest first.0 word small.0 first.1 in
       let others = within_takes ranges words second.0.1 second.0.0 small.1 second.1 in
-      subst (λ (p : List ℕ × List (List ℕ)). TakenWithin (range ∷ ranges) (word ∷ words) p.0 p.1)
-      second.2 (
-        ap (λ (w : List ℕ). w ∷ (map (λ n. decimal n) second.0.0 ++ second.0.1)) one.0
-            ∙ ap (λ (ws : List (List ℕ)). word ∷ ws) others.0,
-        (one.1, one.2, others.1),
-      )
+      subst (λ (p : List ℕ × List (List ℕ)). map (λ n. decimal n) p.0 ++ p.1 ≡ word ∷ words)
+      second.2 (rw (one.0, others) refl)
 
   -- their bytes
   within_plain : (ranges : List Range) (ns : List ℕ) → AreSmall ranges → AreWithin ranges ns
@@ -155,7 +137,8 @@ module _ (numbers : OneNumber) where
   pub within_law : (ranges : List Range) → AreSmall ranges → IsFront 44 (within ranges)
   within_law ranges small = record {
     again = λ ns words fits. within_again ranges ns words small fits;
-    takes = λ words left ns is. within_takes ranges words left ns small is;
+    takes = λ words left ns is.
+        (within_takes ranges words left ns small is, read_are_within ranges words left ns is);
     plain = λ ns fits. within_plain ranges ns small fits;
   }
 
@@ -187,17 +170,12 @@ module _ {A : Type 0} (f : Front A) (c : ℕ) (law : IsFront c f) where
     front_takes : (words : List (List ℕ)) (p : A × B) → (f ◁ r).read words ≡ Some p
         → ((f ◁ r).texts p ≡ words) × (f ◁ r).Fits p
     front_takes words p is =
-        let first = some_then (λ (found : A × List (List ℕ)).
-        option_map (λ (b : B). let q : A × B = (found.0, b) in q) (r.read found.1)) (f.read words)
-        p is in
-        let second = some_map (λ (b : B). let q : A × B = (first.0.0, b) in q)
-        (r.read first.0.1) p first.2 in
+        let first = some_then _ (f.read words) p is in
+        let second = some_map _ (r.read first.0.1) p first.2 in
         let a = law.takes words first.0.1 first.0.0 first.1 in
         let b = others.takes first.0.1 second.0 second.1 in
-        subst (λ (q : A × B). ((f ◁ r).texts q ≡ words) × (f ◁ r).Fits q) second.2 (
-          ap (λ (ws : List (List ℕ)). f.texts first.0.0 ++ ws) b.0 ∙ a.0,
-          (a.1, b.1),
-        )
+        subst (λ (q : A × B). ((f ◁ r).texts q ≡ words) × (f ◁ r).Fits q) second.2
+        (rw b.0 a.0, (a.1, b.1))
 
     -- words in front of a row
     pub front_law : IsRow c (f ◁ r)

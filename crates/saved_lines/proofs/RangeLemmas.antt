@@ -1,5 +1,5 @@
 -- Numbers that were read, each within its range.
-use Rattle.std.proofs.Common.{◌≡◌, ℕ, zero, suc, ◌<◌, ◌≤◌, List, [], ◌∷◌, length, get_or, Some, refl, ap, subst, arith}
+use Rattle.std.proofs.Common.{◌≡◌, ℕ, zero, suc, ◌<◌, ◌≤◌, List, [], ◌∷◌, length, get_or, Some, refl, sym, ap, subst, arith}
 use Rattle.std.specs.Prelude.{◌&&◌, nat_le}
 use Rattle.std.specs.Str.Parse.{digits_value}
 use Rattle.std.proofs.lemmas.Bool.{and_parts, leb-true}
@@ -7,7 +7,7 @@ use Rattle.std.proofs.lemmas.Option.{cond_some, some_pair_parts}
 use Rattle.numerals.specs.Numeral.{is_numeral, number_of}
 use Rattle.log_lines.proofs.FieldLaws.{some_map, some_then}
 use Rattle.saved_lines.specs.declared.range.Range.{Range}
-use Rattle.saved_lines.specs.SavedRows.{with_item, read_within, AreWithin}
+use Rattle.saved_lines.specs.SavedRows.{read_within, AreWithin}
 
 -- a number that was read is within its range
 pub number_within : (least greatest n : ℕ) (word : List ℕ)
@@ -15,8 +15,7 @@ pub number_within : (least greatest n : ℕ) (word : List ℕ)
 unfolding number_of
 number_within least greatest n word is =
     let value = digits_value 10 word in
-    let passed = cond_some (is_numeral word && nat_le value greatest && nat_le least value) value n
-    is in
+    let passed = cond_some _ value n is in
     let two = and_parts (is_numeral word && nat_le value greatest) (nat_le least value) passed.0 in
     let one = and_parts (is_numeral word) (nat_le value greatest) two.0 in (
       omega (arith, leb-true least value two.1, passed.1),
@@ -27,15 +26,11 @@ number_within least greatest n word is =
 pub read_are_within : (ranges : List Range) (words left : List (List ℕ)) (ns : List ℕ)
     → read_within ranges words ≡ Some (ns, left) → AreWithin ranges ns
 read_are_within [] words left ns is =
-    let parts = some_pair_parts [] ns words left is in
-    subst (λ (l : List ℕ). AreWithin [] l) parts.0 tt
+    rw (sym (some_pair_parts [] ns words left is).0) tt
 read_are_within (range ∷ ranges) [] left ns is = absurd cc
 read_are_within (range ∷ ranges) (word ∷ words) left ns is =
-    let first = some_then (with_item (read_within ranges words))
-    (number_of range.least range.greatest word) (ns, left) is in
-    let second = some_map (λ (p : List ℕ × List (List ℕ)).
-    let q : List ℕ × List (List ℕ) = (first.0 ∷ p.0, p.1) in q) (read_within ranges words)
-    (ns, left) first.2 in
+    let first = some_then _ (number_of range.least range.greatest word) (ns, left) is in
+    let second = some_map _ (read_within ranges words) (ns, left) first.2 in
     let bounds = number_within range.least range.greatest first.0 word first.1 in
     let others = read_are_within ranges words second.0.1 second.0.0 second.1 in
     subst (λ (p : List ℕ × List (List ℕ)). AreWithin (range ∷ ranges) p.0) second.2

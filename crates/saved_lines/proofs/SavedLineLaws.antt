@@ -12,18 +12,19 @@ use Rattle.logic_tasks.specs.InputsLaws.{inputs_of-top}
 use Rattle.logic_tasks.specs.TaskBitsLaws.{length-tasks_of}
 use Rattle.log_lines.specs.Fields.{genome_field}
 use Rattle.log_lines.specs.Kinds.{large}
-use Rattle.log_lines.specs.Rows.{Row, last, ◌◂◌}
+use Rattle.log_lines.specs.Rows.{Row, last}
 use Rattle.log_lines.specs.LineText.{words_text, form_text}
 use Rattle.log_lines.proofs.FieldLaws.{Above, IsField, IsRow, chosen, last_law, letters_law, row_law, some_map, some_then}
 use Rattle.log_lines.proofs.KindLaws.{low, large_law}
 use Rattle.log_lines.proofs.RowLaws.{words_in, joined_words, row_words, row_plain, row_takes}
-use Rattle.saved_lines.specs.SavedFields.{signed, nops, marks}
+use Rattle.saved_lines.specs.declared.range.Range.{Range}
+use Rattle.saved_lines.specs.SavedFields.{signed, marks}
 use Rattle.saved_lines.specs.SavedForms.{HasSavedForm}
-use Rattle.saved_lines.specs.SavedReading.{are_ordered, head_of, saved_head_line, organism_at, organism_of, machine_at, machine_of, saved_number_at, read_form, read_saved_words, saved_line_of}
-use Rattle.saved_lines.specs.SavedTables.{MachineFields, head_ranges, head_row, organism_ranges, organism_row, machine_ranges, machine_row, machine_fields, texts_row}
+use Rattle.saved_lines.specs.SavedReading.{are_ordered, head_of, saved_head_line, organism_at, organism_of, machine_of, saved_number_at, read_form, read_saved_words, saved_line_of}
+use Rattle.saved_lines.specs.SavedTables.{MachineFields, head_ranges, head_row, organism_ranges, organism_row, machine_ranges, machine_row, machine_fields}
 use Rattle.saved_lines.specs.SavedText.{saved_row_text, SavedLine, Head, Organism, Machine, Count, head_numbers, organism_numbers}
-use Rattle.saved_lines.specs.SavedRows.{AreWithin, Front, several, within, ◌◁◌}
-use Rattle.saved_lines.proofs.FrontLaws.{IsFront, front_law, front_lower, several_law, whole_law, within_law}
+use Rattle.saved_lines.specs.SavedRows.{AreWithin, within}
+use Rattle.saved_lines.proofs.FrontLaws.{AreSmall, IsFront, front_law, front_lower, several_law, whole_law, within_law}
 use Rattle.saved_lines.proofs.SavedFieldLaws.{signed_law, marks_law, nops_law}
 use Rattle.saved_lines.proofs.FitsLemmas.{head_fits, head_is, head_ordered, organism_fits, organism_is, machine_fits, machine_is}
 use Rattle.saved_lines.proofs.SavedValueLaws.{head_again, head_taken, organism_again, organism_taken, machine_again, machine_taken}
@@ -33,50 +34,29 @@ abbrev LineIs : List ℕ → SavedLine → Type 0
 LineIs bytes line = (saved_row_text line ≡ bytes) × HasSavedForm line
 
 module _ (numbers : OneNumber) where
-  -- words whose bytes are above a space
-  low_front : {A : Type 0} (f : Front A) → IsFront 44 f → IsFront 32 f
-  low_front f law = front_lower f 32 44 (omega arith) law
-
-  -- letters
-  letters32 : IsField 32 genome_field
-  letters32 = low letters_law
-
-  -- marks
-  marks32 : IsField 32 marks
-  marks32 = low marks_law
-
-  -- numbers of 32 bits
-  signed32 : IsField 32 signed
-  signed32 = low (signed_law numbers)
+  -- numbers within ranges
+  within32 : (ranges : List Range) → AreSmall numbers ranges → IsFront 32 (within ranges)
+  within32 ranges small =
+      front_lower (within ranges) 32 44 (omega arith) (within_law numbers ranges small)
 
   -- the row of a head
   head_law : IsRow 32 head_row
-  head_law = whole_law (within head_ranges) 32
-      (low_front (within head_ranges) (within_law numbers head_ranges (search arith)))
+  head_law = whole_law (within head_ranges) 32 (within32 head_ranges (search arith))
 
   -- the row of an organism
   organism_law : IsRow 32 organism_row
-  organism_law = front_law (within organism_ranges) 32
-      (low_front (within organism_ranges) (within_law numbers organism_ranges (search arith)))
-      (last genome_field) (last_law letters32)
-
-  -- the four texts
-  texts_law : IsRow 32 texts_row
-  texts_law =
-      row_law letters32 (row_law letters32 (row_law marks32 (last_law marks32)))
+  organism_law = front_law (within organism_ranges) 32 (within32 organism_ranges (search arith))
+      (last genome_field) (last_law (low letters_law))
 
   -- the row of a machine
   machine_law : IsRow 32 machine_row
   machine_law =
-      let stack = several_law signed 32 signed32 10 in
-      front_law (several 3 signed) 32 (several_law signed 32 signed32 3)
-      (within machine_ranges ◁ (nops ◂ (several 10 signed ◁ (several 10 signed ◁ texts_row))))
-      (front_law (within machine_ranges) 32
-      (low_front (within machine_ranges) (within_law numbers machine_ranges (search arith)))
-      (nops ◂ (several 10 signed ◁ (several 10 signed ◁ texts_row)))
-      (row_law (low nops_law)
-      (front_law (several 10 signed) 32 stack (several 10 signed ◁ texts_row)
-      (front_law (several 10 signed) 32 stack texts_row texts_law))))
+      let ints = several_law signed 32 (low (signed_law numbers)) in
+      let letters : IsField 32 genome_field = low letters_law in
+      let digits : IsField 32 marks = low marks_law in
+      front_law _ 32 (ints 3) _ (front_law _ 32 (within32 machine_ranges (search arith)) _
+      (row_law (low nops_law) (front_law _ 32 (ints 10) _ (front_law _ 32 (ints 10) _
+      (row_law letters (row_law letters (row_law digits (last_law digits))))))))
 
   -- the row of a count
   count_law : IsRow 32 (last large)
@@ -168,11 +148,8 @@ module _ (numbers : OneNumber) where
   machine_written p fits =
       let back = machine_taken p.1.0 fits.1.0 in (
         ap (λ (l : List ℕ). form_text 77 machine_row (p.0, (l, p.1.1))) back,
-        machine_is (machine_at p) (saved_number_at p.1.0 1) (saved_number_at p.1.0 2)
-            (saved_number_at p.1.0 3) (saved_number_at p.1.0 4) refl (
-              fits.0,
-              (subst (λ (l : List ℕ). AreWithin machine_ranges l) (sym back) fits.1.0, fits.1.1),
-            ),
+        machine_is p
+            (fits.0, (subst (λ (l : List ℕ). AreWithin machine_ranges l) (sym back) fits.1.0, fits.1.1)),
       )
 
   -- what is read of words was written so

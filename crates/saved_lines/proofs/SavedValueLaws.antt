@@ -1,16 +1,15 @@
 -- The values of a line and its fields give one another.
-use Rattle.std.proofs.Common.{◌≡◌, ℕ, zero, suc, ◌+◌, ◌*◌, ◌/◌, ◌%◌, ◌^◌, ◌<◌, ◌≤◌, Bool, true, false, List, [], ◌∷◌, length, get_or, drop, cond, refl, sym, ap, ◌∙◌, arith, drop-cons, add-one}
+use Rattle.std.proofs.Common.{◌≡◌, ℕ, zero, suc, ◌+◌, ◌*◌, ◌/◌, ◌%◌, ◌^◌, ◌<◌, ◌≤◌, Bool, true, false, List, [], ◌∷◌, length, get_or, drop, refl, sym, ap, ◌∙◌, arith}
 use Rattle.std.specs.Prelude.{◌==◌}
-use Rattle.std.proofs.lemmas.List.{length-map}
+use Rattle.std.proofs.lemmas.List.{drop_all, drop_more, length-map}
 use Rattle.instruction_set.specs.declared.letter.Letter.{Letter}
 use Rattle.logic_tasks.specs.Inputs.{HasTopBytes, inputs_of, low_of}
 use Rattle.logic_tasks.specs.TaskBits.{bits_of_tasks, tasks_of}
 use Rattle.logic_tasks.specs.TaskBitsLaws.{bit_at-number_of, get_or-tasks_of, length-tasks_of, number_of-tasks_of}
 use Rattle.virtual_cpu.specs.declared.cpu_image.CpuImage.{CpuImage}
-use Rattle.saved_lines.specs.declared.range.Range.{Range}
 use Rattle.saved_lines.specs.SavedForms.{IsOrganismLine, IsMachineLine}
 use Rattle.saved_lines.specs.SavedReading.{saved_number_at, head_of, organism_at, organism_of, machine_of}
-use Rattle.saved_lines.specs.SavedTables.{head_ranges, organism_ranges, machine_ranges, machine_fields}
+use Rattle.saved_lines.specs.SavedTables.{any_flag, head_ranges, organism_ranges, machine_ranges, machine_fields}
 use Rattle.saved_lines.specs.SavedText.{Organism, Machine, flag_number, head_numbers, organism_numbers}
 use Rattle.saved_lines.specs.SavedRows.{AreWithin}
 use Rattle.saved_lines.specs.SavedValues.{HeadValues, OrganismValues}
@@ -23,20 +22,11 @@ abbrev from : List ℕ → ℕ → ℕ → List ℕ
 from ns at zero = []
 from ns at (suc n) = get_or ns at 0 ∷ from ns (at + 1) n
 
--- nothing is left
-drop_all : (ns : List ℕ) → drop (length ns) ns ≡ []
-drop_all [] = refl
-drop_all (n ∷ ns) = drop_all ns
-
 -- the items from a place on
 from_is : (ns : List ℕ) (at n : ℕ) → length ns ≡ at + n → drop at ns ≡ from ns at n
-from_is ns at zero long =
-    let all : at ≡ length ns = omega (arith, long) in
-    ap (λ (k : ℕ). drop k ns) all ∙ drop_all ns
+from_is ns at zero long = drop_all at ns (omega (arith, long))
 from_is ns at (suc n) long =
-    drop-cons ns at 0 (omega (arith, long))
-    ∙ ap (λ (k : ℕ). get_or ns at 0 ∷ drop k ns) (sym (add-one at))
-    ∙ ap (λ (l : List ℕ). get_or ns at 0 ∷ l) (from_is ns (at + 1) n (omega (arith, long)))
+    rw (drop_more ns at 0 (omega (arith, long)), from_is ns (at + 1) n (omega (arith, long))) refl
 
 -- ---- flags
 
@@ -66,23 +56,17 @@ version (n ∷ ns) all = omega (arith, all.0, all.1)
 -- the numbers of their head
 pub head_taken : (ns : List ℕ) → AreWithin head_ranges ns → head_numbers (head_of ns) ≡ ns
 head_taken ns all =
-    let any : Range = record { least = 0; greatest = 0 } in
     let long : length ns ≡ 22 = within_length head_ranges ns all in
     let death = flag_taken (saved_number_at ns 7)
-    (bound_at head_ranges ns 7 any all (omega arith)) in
+    (bound_at head_ranges ns 7 any_flag all (omega arith)) in
     let empty = flag_taken (saved_number_at ns 15)
-    (bound_at head_ranges ns 15 any all (omega arith)) in
+    (bound_at head_ranges ns 15 any_flag all (omega arith)) in
     let alloc = flag_taken (saved_number_at ns 16)
-    (bound_at head_ranges ns 16 any all (omega arith)) in
+    (bound_at head_ranges ns 16 any_flag all (omega arith)) in
     let one : 1 ≡ saved_number_at ns 0 = version ns all in
     rw (death, empty, alloc) (ap (λ (n : ℕ). n ∷ from ns 1 21) one ∙ sym (from_is ns 0 22 long))
 
 -- ---- sets of tasks
-
--- a bit of its digit
-bit_again : (b : Bool) → (cond b 1 0 == 1) ≡ b
-bit_again true = refl
-bit_again false = refl
 
 -- two lists with equal items
 same_items : (a b : List Bool) → length a ≡ length b
@@ -93,7 +77,7 @@ same_items (x ∷ a) [] long items = absurd (omega (arith, long))
 same_items (x ∷ a) (y ∷ b) long items =
     let first : x ≡ y = items 0 (omega arith) in
     let others = same_items a b (omega (arith, long)) (λ i low. items (suc i) (omega (arith, low)))
-    in ap (λ (z : Bool). z ∷ a) first ∙ ap (λ (l : List Bool). y ∷ l) others
+    in cc
 
 -- a set of its number
 pub tasks_again : (tasks : List Bool) → length tasks ≡ 9 → tasks_of (bits_of_tasks tasks) ≡ tasks
@@ -101,7 +85,7 @@ tasks_again tasks long =
     same_items (tasks_of (bits_of_tasks tasks)) tasks
     (length-tasks_of (bits_of_tasks tasks) ∙ sym long)
     (λ i low. get_or-tasks_of (bits_of_tasks tasks) i (omega (arith, low, long))
-    ∙ ap (λ (n : ℕ). n == 1) (bit_at-number_of tasks i) ∙ bit_again (get_or tasks i false))
+    ∙ ap (λ (n : ℕ). n == 1) (bit_at-number_of tasks i) ∙ flag_again (get_or tasks i false))
 
 -- ---- inputs
 
@@ -148,18 +132,17 @@ module _ (ns : List ℕ) (genome : List Letter) (all : AreWithin organism_ranges
   -- the numbers of their organism
   pub organism_taken : organism_numbers (organism_at ns genome) ≡ ns
   organism_taken =
-      let any : Range = record { least = 0; greatest = 0 } in
       let long : length ns ≡ 10 = within_length organism_ranges ns all in
       let credited = number_of-tasks_of (saved_number_at ns 3)
-      (omega (arith, bound_at organism_ranges ns 3 any all (omega arith))) in
+      (omega (arith, bound_at organism_ranges ns 3 any_flag all (omega arith))) in
       let gestation = number_of-tasks_of (saved_number_at ns 6)
-      (omega (arith, bound_at organism_ranges ns 6 any all (omega arith))) in
+      (omega (arith, bound_at organism_ranges ns 6 any_flag all (omega arith))) in
       let first = input_taken 15 (saved_number_at ns 7)
-      (bound_at organism_ranges ns 7 any all (omega arith)) in
+      (bound_at organism_ranges ns 7 any_flag all (omega arith)) in
       let second = input_taken 51 (saved_number_at ns 8)
-      (bound_at organism_ranges ns 8 any all (omega arith)) in
+      (bound_at organism_ranges ns 8 any_flag all (omega arith)) in
       let third = input_taken 85 (saved_number_at ns 9)
-      (bound_at organism_ranges ns 9 any all (omega arith)) in
+      (bound_at organism_ranges ns 9 any_flag all (omega arith)) in
       rw (credited, gestation, from_is ns 7 3 long, first, second, third)
       (sym (from_is ns 0 10 long))
 
@@ -177,8 +160,7 @@ pub machine_taken : (ns : List ℕ) → AreWithin machine_ranges ns
     ∷ saved_number_at ns 4
     ∷ flag_number (saved_number_at ns 5 == 1) ∷ [] ≡ ns
 machine_taken ns all =
-    let any : Range = record { least = 0; greatest = 0 } in
     let long : length ns ≡ 6 = within_length machine_ranges ns all in
     let pending =
-    flag_taken (saved_number_at ns 5) (bound_at machine_ranges ns 5 any all (omega arith)) in
+    flag_taken (saved_number_at ns 5) (bound_at machine_ranges ns 5 any_flag all (omega arith)) in
     rw pending (sym (from_is ns 0 6 long))

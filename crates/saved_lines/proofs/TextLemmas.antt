@@ -1,5 +1,5 @@
 -- The words of a line, part by part.
-use Rattle.std.proofs.Common.{◌≡◌, ℕ, ◌<◌, ◌∙◌, arith, refl, sym, ap, length, List, [], ◌∷◌, ◌++◌, map, append_assoc, append-nil}
+use Rattle.std.proofs.Common.{◌≡◌, ℕ, ◌<◌, arith, refl, ap, length, List, [], ◌∷◌, ◌++◌, map, append_assoc, append-nil}
 use Rattle.instruction_set.specs.declared.letter.Letter.{Letter}
 use Rattle.instruction_set.specs.Letter.{byte_of}
 use Rattle.virtual_cpu.specs.declared.cpu_image.CpuImage.{CpuImage}
@@ -13,14 +13,12 @@ use Rattle.log_lines.proofs.TextLemmas.{words_text-append, words_text_more}
 -- numbers, and a text
 pub organism_line : (numbers : List (List ℕ)) (text : List ℕ)
     → words_text (numbers ++ text ∷ []) ≡ words_text numbers ++ 32 ∷ text
-organism_line numbers text = words_text-append numbers (text ∷ [])
-    ∙ ap (λ (l : List ℕ). words_text numbers ++ 32 ∷ l) (append-nil text)
+organism_line numbers text = rw (words_text-append numbers (text ∷ []), append-nil text) refl
 
 -- a word, and two lists of words
 pub stacks_text : (word : List ℕ) (first second : List (List ℕ))
     → words_text (word ∷ (first ++ second)) ≡ (32 ∷ word) ++ (words_text first ++ words_text second)
-stacks_text word first second =
-    ap (λ (l : List ℕ). (32 ∷ word) ++ l) (words_text-append first second)
+stacks_text word first second = rw (words_text-append first second) refl
 
 -- the words of the four texts
 abbrev pub image_texts : CpuImage → List (List ℕ)
@@ -72,20 +70,13 @@ line_made old words mark = simp append_assoc
 pub organism_made : (old : List ℕ) (numbers : List (List ℕ)) (text : List ℕ)
     → (((old ++ 79 ∷ []) ++ words_text numbers) ++ 32 ∷ text) ++ 10 ∷ []
     ≡ old ++ ((79 ∷ words_text (numbers ++ text ∷ [])) ++ 10 ∷ [])
-organism_made old numbers text =
-    ap (λ (l : List ℕ). l ++ 10 ∷ [])
-    (append_assoc (old ++ 79 ∷ []) (words_text numbers) (32 ∷ text)
-    ∙ ap (λ (l : List ℕ). (old ++ 79 ∷ []) ++ l) (sym (organism_line numbers text)))
-    ∙ line_made old (words_text (numbers ++ text ∷ [])) 79
+organism_made old numbers text = simp (words_text-append, append_assoc, append-nil)
 
 -- a word and two lists of words
 pub stacks_made : (old word : List ℕ) (first second : List (List ℕ))
     → ((old ++ 32 ∷ word) ++ words_text first) ++ words_text second
     ≡ old ++ words_text (word ∷ (first ++ second))
-stacks_made old word first second =
-    append_assoc (old ++ 32 ∷ word) (words_text first) (words_text second)
-    ∙ append_assoc old (32 ∷ word) (words_text first ++ words_text second)
-    ∙ ap (λ (l : List ℕ). old ++ l) (sym (stacks_text word first second))
+stacks_made old word first second = simp (words_text-append, append_assoc)
 
 -- four texts in turn
 pub four_texts : (old a b c d : List ℕ)

@@ -1,5 +1,5 @@
 -- Cells in which each organism is bounded.
-use Rattle.std.proofs.Common.{◌^◌, ◌≡◌, set-set, ℕ, ◌<◌, ◌≤◌, List, [], Option, None, Some, replicate, arith}
+use Rattle.std.proofs.Common.{◌^◌, ◌≡◌, set-set, ℕ, ◌<◌, ◌≤◌, List, Option, None, Some, replicate, arith}
 use Rattle.std.proofs.Math.ListN.{set}
 use Rattle.std.proofs.lemmas.List.Elements.{All-replicate, All-set}
 use Rattle.world_rules.specs.World.{Occupant}
