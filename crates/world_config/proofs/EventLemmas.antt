@@ -7,6 +7,7 @@ use Rattle.std.specs.List.{AllPass}
 use Rattle.std.specs.List.Sorted.{IsNonDecreasingBy}
 use Rattle.std.specs.Str.{bytes_eq}
 use Rattle.std.proofs.lemmas.Bool.{and_parts}
+use Rattle.std.proofs.lemmas.Option.{cond_some}
 use Rattle.std.proofs.lemmas.List.Elements.{All-cons, All-nil}
 use Rattle.toml.specs.Data.{Data, string, integer, table, Items}
 use Rattle.toml.specs.Data.{no_items, item, Members, get_member, as_str}
@@ -23,12 +24,6 @@ use Rattle.world_config.specs.EventForms.{events_of, followed, genome_from}
 use Rattle.world_config.specs.EventForms.{inject_of, more_events, number_from}
 use Rattle.world_config.specs.EventForms.{rate_of, sized, what_of}
 use Rattle.world_config.specs.Lookup.{item_count}
-
--- what a test that was passed gave
-some_if : {A : Type 0} (test : Bool) (x y : A) → cond test (Some x) None ≡ Some y
-    → (test ≡ true) × (x ≡ y)
-some_if true x y h = (refl, cc)
-some_if false x y h = absurd (cc)
 
 -- what is there under a condition is there
 only_if : {A : Type 0} (test : Bool) (o : Option A) (y : A) → cond test o None ≡ Some y → o ≡ Some y
@@ -59,7 +54,7 @@ within_integer : (least greatest : ℕ) (z : ℤ) (n : ℕ)
     → number_from least greatest (Some (integer z)) ≡ Some n
     → (nat_le least n && nat_le n greatest) ≡ true
 within_integer least greatest (pos m) n h =
-    let (passed, same) = some_if (nat_le least m && nat_le m greatest) m n h in rw (← same) passed
+    let (passed, same) = cond_some (nat_le least m && nat_le m greatest) m n h in rw (← same) passed
 within_integer least greatest (negsuc m) n h = absurd (cc)
 
 -- a number that was read is within its bounds
@@ -74,7 +69,7 @@ sized-some : (least greatest : ℕ) (r : Result (List Letter) GenomeStop) (ls : 
     → sized least greatest r ≡ Some ls → (nat_le least (length ls) && nat_le (length ls) greatest)
     ≡ true
 sized-some least greatest (Ok ks) ls h =
-    let (passed, same) = some_if (nat_le least (length ks) && nat_le (length ks) greatest) ks ls h
+    let (passed, same) = cond_some (nat_le least (length ks) && nat_le (length ks) greatest) ks ls h
     in rw (← same) passed
 sized-some least greatest (Err stop) ls h = absurd (cc)
 
@@ -160,10 +155,6 @@ what_of-fits frame ms kind what h =
     (bytes_eq kind (codes "rate")) (inject_of frame ms) (clear_of frame ms) (rate_of ms)
     (inject_of-fits frame ms what) (clear_of-fits frame ms what) (rate_of-fits frame ms what) h
 
--- an order that was tested holds
-le_from : (a b : ℕ) → nat_le a b ≡ true → a ≤ b
-le_from a b h = leb-true a b h
-
 -- an event that was read is in the updates, not below the least, and what it does fits
 pub record Fits (frame : Frame) (least : ℕ) (event : EventValue) : Type 0 where
   pub least_update : least ≤ event.update
@@ -183,8 +174,8 @@ table_fits frame least ms event h =
     let (low, high) = and_parts (nat_le least update) (nat_le update frame.updates)
     (within least frame.updates (get_member (codes "update") ms) update of_update) in
     rw (← made) (record {
-      least_update = le_from least update low;
-      update = le_from update frame.updates high;
+      least_update = leb-true least update low;
+      update = leb-true update frame.updates high;
       what = what_of-fits frame ms kind what does;
     })
 
@@ -267,9 +258,7 @@ above_least : (least : ℕ) (events : List EventValue) → RisesFrom least event
 above_least least [] rises j d h = absurd (omega (arith, h))
 above_least least (event ∷ events) rises zero d h = rises.0
 above_least least (event ∷ events) rises (suc j) d h =
-    let rest : j < length events = omega (arith, h) in
-    let next : event.update ≤ (get_or events j d).update =
-    above_least event.update events rises.1 j d rest in
+    let next = above_least event.update events rises.1 j d (omega (arith, h)) in
     omega (arith, rises.0, next)
 
 -- updates that rise never fall
@@ -278,13 +267,10 @@ non_decreasing : (least : ℕ) (events : List EventValue) → RisesFrom least ev
 non_decreasing least [] rises i j d le h = absurd (omega (arith, h))
 non_decreasing least (event ∷ events) rises zero zero d le h = omega arith
 non_decreasing least (event ∷ events) rises zero (suc j) d le h =
-    let rest : j < length events =
-    omega (arith, h) in above_least event.update events rises.1 j d rest
+    above_least event.update events rises.1 j d (omega (arith, h))
 non_decreasing least (event ∷ events) rises (suc i) zero d le h = absurd (omega (arith, le))
 non_decreasing least (event ∷ events) rises (suc i) (suc j) d le h =
-    let rest : j < length events = omega (arith, h) in
-    let less : i ≤ j = omega (arith, le) in
-    non_decreasing event.update events rises.1 i j d less rest
+    non_decreasing event.update events rises.1 i j d (omega (arith, le)) (omega (arith, h))
 
 -- events that were read can stand in a configuration
 pub AreEvents-read : (frame : Frame) (items : Items) (happening : List EventValue)

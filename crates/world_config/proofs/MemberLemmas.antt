@@ -1,6 +1,6 @@
 -- The members of a table and of an array beside the values that they stand for.
 use Rattle.std.proofs.Common.{◌≡◌, ℕ, ◌+◌, ◌<◌, Bool, List, [], ◌∷◌, ◌++◌, map, length, drop}
-use Rattle.std.proofs.Common.{get_or, Some, None, Result, Ok, Err, string_bytes, refl, sym, ◌∙◌, ap}
+use Rattle.std.proofs.Common.{get_or, Some, None, Result, Ok, Err, string_bytes, refl, sym}
 use Rattle.std.specs.List.{list_any, list_all}
 use Rattle.std.specs.Str.{bytes_eq}
 use Rattle.std.specs.Borrow.{Bor}
@@ -68,10 +68,8 @@ module _ (frame : Frame) (members : List Value) (place least : ℕ) (events : Li
       → member ≡ get_or members place member → event_of frame least (view member) ≡ None
       → events_of frame (items_view members) ≡ Err (place + 1)
   events_of-stopped member h is none =
-      read ∙ ap (resumed events) (from_place frame members place (place + 1) least member h is
-      ∙ ap (λ o. followed (place + 1) o
-      (events_from frame (items_view (drop (place + 1) members)) (place + 1 + 1))) none)
-      ∙ resumed-err events (place + 1)
+      rw (read, from_place frame members place (place + 1) least member h is, none)
+      (resumed-err events (place + 1))
 
   -- a member that is an event comes after those before it
   pub events_of-kept : (member : Value) (event : EventValue) → place < length members
@@ -80,13 +78,9 @@ module _ (frame : Frame) (members : List Value) (place least : ℕ) (events : Li
       ≡ resumed (events ++ event ∷ [])
       (events_from frame (items_view (drop (place + 1) members)) (place + 1 + 1) event.update)
   events_of-kept member event h is some =
-      read ∙ ap (resumed events) (from_place frame members place (place + 1) least member h is
-      ∙ ap (λ o. followed (place + 1) o
-      (events_from frame (items_view (drop (place + 1) members)) (place + 1 + 1))) some)
-      ∙ sym (resumed-last events event _)
+      rw (read, from_place frame members place (place + 1) least member h is, some)
+      (sym (resumed-last events event _))
 
   -- where no member is left, these are the events
   pub events_of-ended : drop place members ≡ [] → events_of frame (items_view members) ≡ Ok events
-  events_of-ended none = read
-      ∙ ap (λ vs. resumed events (events_from frame (items_view vs) (place + 1) least)) none
-      ∙ resumed-ok events
+  events_of-ended none = rw (read, none) (resumed-ok events)

@@ -1,8 +1,8 @@
 -- A configuration that is printed is read back.
 use Rattle.std.proofs.Common.{◌≡◌, ℕ, ◌+◌, ◌-◌, ◌<◌, ◌≤◌, true, false, ◌&&◌, nat_le, nat_eq, List}
 use Rattle.std.proofs.Common.{[], ◌∷◌, length, map, drop, get_or, Option, Some, None, Ok, pos, refl}
-use Rattle.std.proofs.Common.{ap, ◌∙◌, arith, le-leb, lit≤, zero, suc, le-ltb, leb-true, ne_eqb}
-use Rattle.std.proofs.Common.{◌≢◌, add-one, codes, option_map, option_and_then}
+use Rattle.std.proofs.Common.{ap, arith, le-leb, lit≤, zero, suc, le-ltb, leb-true, ne_eqb}
+use Rattle.std.proofs.Common.{◌≢◌, add-one, codes, option_and_then}
 use Rattle.std.specs.Prelude.{filter_map, is_none}
 use Rattle.std.specs.List.{AllPass, position_from}
 use Rattle.std.specs.Cmp.Lexicographic.{pointwise}
@@ -13,16 +13,16 @@ use Rattle.instruction_set.specs.declared.letter.Letter.{Letter}
 use Rattle.instruction_set.specs.declared.letter.Letter.TheVariants.{NopA}
 use Rattle.instruction_set.specs.Letter.{byte_of, letter_of_byte}
 use Rattle.genome.specs.Genome.{genome_of}
-use Rattle.genome.specs.GenomeText.{before_line_end, first_bad_byte, genome_by_letters}
-use Rattle.genome.specs.GenomeText.{letters_text_of, spelled_by_letters, unless_faulty}
+use Rattle.genome.specs.GenomeText.{before_line_end}
+use Rattle.genome.specs.GenomeText.{letters_text_of, spelled_by_letters}
 use Rattle.mutations.specs.declared.rate_name.RateName.{RateName}
 use Rattle.mutations.specs.declared.rate_name.RateName.TheVariants.{Copy}
 use Rattle.world_config.specs.KeyTable.{Frame}
 use Rattle.world_config.specs.Events.{AreEvents, EventValue, WhatValue, inject, clear, rate}
 use Rattle.world_config.specs.Events.{event_fits, what_fits}
 use Rattle.mutations.specs.RateNames.{name_of_rate, rate_named}
-use Rattle.world_config.specs.EventForms.{both, event_of, events_from, events_of, followed}
-use Rattle.world_config.specs.EventForms.{genome_from, more_events, number_from, sized, what_of}
+use Rattle.world_config.specs.EventForms.{both, event_of, events_from, events_of}
+use Rattle.world_config.specs.EventForms.{genome_from, more_events, number_from, what_of}
 use Rattle.world_config.specs.Lookup.{item_count}
 use Rattle.world_config.specs.EventTables.{event_members, items_for}
 
@@ -67,12 +67,7 @@ genome_of-fits ls low high = rw (le-ltb (length ls) 8 low, le-ltb 8192 (length l
 pub spelled_by_letters-text : (ls : List Letter) → 8 ≤ length ls → length ls ≤ 8192
     → spelled_by_letters (letters_text_of ls) ≡ Ok ls
 spelled_by_letters-text ls low high =
-    ap genome_by_letters (ap
-    (λ text. unless_faulty (first_bad_byte text) (filter_map letter_of_byte text))
-    (same_before_line_end ls)
-    ∙ ap (λ o. unless_faulty o (filter_map letter_of_byte (map byte_of ls))) (no_bad_byte ls 0)
-    ∙ ap Ok (all_letters ls))
-    ∙ genome_of-fits ls low high
+    rw (same_before_line_end ls, no_bad_byte ls 0, all_letters ls) (genome_of-fits ls low high)
 
 -- the rate of a rate's name
 rate_named-key : (name : RateName) → rate_named (name_of_rate name) ≡ Some name
@@ -88,13 +83,7 @@ number_from-pos least greatest n low high = rw (le-leb least n low, le-leb n gre
 -- two values that are there make one
 both-some : {A B C : Type 0} (make : A → B → C) {a : Option A} {b : Option B} (x : A) (y : B)
     → a ≡ Some x → b ≡ Some y → both make a b ≡ Some (make x y)
-both-some make {b = b} x y h k = ap (λ o. both make o b) h ∙ ap (both make (Some x)) k
-
--- letters within the two lengths are read
-sized-fits : (least greatest : ℕ) (ls : List Letter)
-    → (nat_le least (length ls) && nat_le (length ls) greatest) ≡ true
-    → sized least greatest (Ok ls) ≡ Some ls
-sized-fits least greatest ls h = rw h refl
+both-some make x y h k = rw (h, k) refl
 
 -- the lengths of a frame are those of genomes
 pub record IsFrame (frame : Frame) : Type 0 where
@@ -113,11 +102,11 @@ module _ (frame : Frame) (is : IsFrame frame) where
       let above : frame.least_length ≤ length ls = leb-true frame.least_length (length ls) low in
       let below : length ls ≤ frame.greatest_length =
       leb-true (length ls) frame.greatest_length high in
-      let least : 8 ≤ length ls = omega (arith, is.least) in
-      let greatest : length ls ≤ 8192 = omega (arith, is.greatest) in
-      ap (sized frame.least_length frame.greatest_length)
-      (spelled_by_letters-text ls least greatest)
-      ∙ sized-fits frame.least_length frame.greatest_length ls h
+      rw (
+        spelled_by_letters-text ls (omega (arith, is.least)) (omega (arith, is.greatest)),
+        low,
+        high,
+      ) refl
 
   -- what an event does is read back
   what_of-members : (update : ℕ) (what : WhatValue) → what_fits frame what ≡ true
@@ -131,12 +120,10 @@ module _ (frame : Frame) (is : IsFrame frame) where
       (genome_from-text ls size)
   what_of-members update (clear first last) h =
       let (low, high) = and_parts (nat_le first last) (nat_le last frame.last_cell) h in
-      ap (option_and_then (λ (last : ℕ). option_map (λ (first : ℕ). clear first last)
-      (number_from 0 last (Some (integer (pos first))))))
-      (number_from-pos 0 frame.last_cell last (omega arith)
-      (leb-true last frame.last_cell high))
-      ∙ ap (option_map (λ (first : ℕ). clear first last))
-      (number_from-pos 0 last first (omega arith) (leb-true first last low))
+      rw (
+        number_from-pos 0 frame.last_cell last (omega arith) (leb-true last frame.last_cell high),
+        number_from-pos 0 last first (omega arith) (leb-true first last low),
+      ) refl
   what_of-members update (rate name ppm) h =
       both-some rate name ppm (rate_named-key name)
       (number_from-pos 0 1000000 ppm (omega arith) (leb-true ppm 1000000 h))
@@ -145,12 +132,9 @@ module _ (frame : Frame) (is : IsFrame frame) where
   member_update : (least update : ℕ) (what : WhatValue) → least ≤ update → update ≤ frame.updates
       → number_from least frame.updates (get_member (codes "update") (event_members update what))
       ≡ Some update
-  member_update least update (inject cell ls) low high =
-      number_from-pos least frame.updates update low high
-  member_update least update (clear first last) low high =
-      number_from-pos least frame.updates update low high
-  member_update least update (rate name ppm) low high =
-      number_from-pos least frame.updates update low high
+  member_update least update (inject _ _) = number_from-pos least frame.updates update
+  member_update least update (clear _ _) = number_from-pos least frame.updates update
+  member_update least update (rate _ _) = number_from-pos least frame.updates update
 
   -- an event is read back
   event_of-members : (least : ℕ) (event : EventValue) → least ≤ event.update
@@ -175,27 +159,19 @@ module _ (frame : Frame) (is : IsFrame frame) where
   events_from-items [] nth least above rising fit = refl
   events_from-items (event ∷ events) nth least above rising fit =
       let some : 0 < length (event ∷ events) = omega arith in
-      ap (λ o. followed nth o (events_from frame (items_for events) (nth + 1)))
-      (event_of-members least event (above 0 event some) (fit 0 event some))
-      ∙ ap (more_events event) (events_from-items events (nth + 1) event.update
-      (λ (j : ℕ) (d : EventValue) (h : j < length events). rising 0 (suc j) d (omega arith)
-      (omega (arith, h)))
-      (λ (i j : ℕ) (d : EventValue) (le : i ≤ j) (h : j < length events). rising (suc i) (suc j) d
-      (omega (arith, le)) (omega (arith, h)))
-      (λ (j : ℕ) (d : EventValue) (h : j < length events). fit (suc j) d (omega (arith, h))))
+      rw (event_of-members least event (above 0 event some) (fit 0 event some))
+      (ap (more_events event) (events_from-items events (nth + 1) event.update
+      (λ j d h. rising 0 (suc j) d (omega arith) (omega (arith, h)))
+      (λ i j d le h. rising (suc i) (suc j) d (omega (arith, le)) (omega (arith, h)))
+      (λ j d h. fit (suc j) d (omega (arith, h)))))
 
   -- events that are printed are read back
   pub events_of-items : (events : List EventValue) → AreEvents frame events
       → events_of frame (items_for events) ≡ Ok events
   events_of-items events are =
       events_from-items events 1 1
-      (λ (j : ℕ) (d : EventValue) (h : j < length events).
-      leb-true 1 (get_or events j d).update
-      (and_parts (nat_le 1 (get_or events j d).update)
-      (nat_le (get_or events j d).update frame.updates)
-      (and_parts (nat_le 1 (get_or events j d).update
-      && nat_le (get_or events j d).update frame.updates)
-      (what_fits frame (get_or events j d).what) (are.fit j d h)).0).0)
+      (λ j d h. leb-true 1 (get_or events j d).update
+      (and_parts _ _ (and_parts _ _ (are.fit j d h)).0).0)
       are.rising are.fit
 
 -- the tables are as many as the events
@@ -205,9 +181,9 @@ item_count-items (event ∷ events) = rw (item_count-items events, add-one) refl
 
 -- the table of an event holds no table
 event_depth : (update : ℕ) (what : WhatValue) → depth (table (event_members update what)) ≡ 1
-event_depth update (inject cell ls) = refl
-event_depth update (clear first last) = refl
-event_depth update (rate name ppm) = refl
+event_depth update (inject _ _) = refl
+event_depth update (clear _ _) = refl
+event_depth update (rate _ _) = refl
 
 -- the tables of events hold no table
 pub items_depth-events : (events : List EventValue) → items_depth (items_for events) ≤ 1

@@ -88,10 +88,8 @@ module _ (c : Config) (read : spelled_by_letters (letters_text_of (letters c.anc
   none_refused : (others : List Key) → first_refusal_of (values_of c) others ≡ None
   none_refused [] = refl
   none_refused (key ∷ others) =
-      ap (λ o. option_or o (first_refusal_of (values_of c) others))
-      (accepted_value (key_row (values_frame (values_of c)) key).kind key
-      (printed_at (values_of c) key) (fits_at key))
-      ∙ none_refused others
+      rw (accepted_value (key_row (values_frame (values_of c)) key).kind key
+      (printed_at (values_of c) key) (fits_at key)) (none_refused others)
 
 -- the table of a configuration says what the configuration says
 pub config_in-members : (c : Config) → config_in (members_for (values_of c)) ≡ Ok (values_of c)

@@ -1,6 +1,6 @@
 -- What refuses a table, and what it says, by the numbers that were read in groups.
-use Rattle.std.proofs.Common.{◌≡◌, ℕ, List, [], ◌∷◌, ◌++◌, length, Option, Some, None, refl, sym}
-use Rattle.std.proofs.Common.{ap, ◌∙◌, add-one, Result, Ok, Err}
+use Rattle.std.proofs.Common.{◌≡◌, ℕ, List, [], ◌∷◌, ◌++◌, length, Option, Some, None, refl}
+use Rattle.std.proofs.Common.{◌∙◌, ap, add-one, Result, Ok, Err}
 use Rattle.std.specs.Option.{option_or}
 use Rattle.toml.specs.Data.{no_items, Members, string, array}
 use Rattle.toml.specs.declared.value.Value.{Value}
@@ -31,9 +31,7 @@ first_refusal-append : (a b : List Key) (ms : Members)
     → first_refusal (a ++ b) ms ≡ option_or (first_refusal a ms) (first_refusal b ms)
 first_refusal-append [] b ms = refl
 first_refusal-append (key ∷ a) b ms =
-    ap (option_or (refusal_at (frame_in ms) key ms)) (first_refusal-append a b ms)
-    ∙ sym (option_or-assoc (refusal_at (frame_in ms) key ms) (first_refusal a ms)
-    (first_refusal b ms))
+    rw (first_refusal-append a b ms, option_or-assoc (refusal_at (frame_in ms) key ms)) refl
 
 -- the frame of a table, whatever the frame in which its numbers are looked up
 frame_in-at : (ms : Members)
@@ -80,17 +78,16 @@ pub first_refusal-last : (ms : Members) (numbers : Numbers) → AreNumbers ms nu
     code.Ancestor (value_or code.Ancestor (string default_ancestor) ms))
     (option_or (refusal_of (events 1000) code.Event (value_or code.Event (array no_items) ms)) None)
 first_refusal-last ms numbers are accepted =
-    first_refusal-append number_keys last_keys ms
-    ∙ ap (λ o. option_or o (first_refusal last_keys ms)) accepted
-    ∙ ap (λ o. option_or o (option_or (refusal_at (frame_in ms) code.Event ms) None))
-    (refusal_at-ancestor (frame_in ms) ms
-    ∙ ap (λ (frame : Frame).
-    refusal_of (genome frame.least_length frame.greatest_length) code.Ancestor
-    (value_or code.Ancestor (string default_ancestor) ms)) (frame_in-numbers ms numbers are))
-    ∙ ap (λ o. option_or (refusal_of
-    (genome numbers.lengths.least_length numbers.lengths.greatest_length) code.Ancestor
-    (value_or code.Ancestor (string default_ancestor) ms)) (option_or o None))
-    (refusal_at-event (frame_in ms) ms)
+    rw (
+      first_refusal-append number_keys last_keys ms,
+      accepted,
+      refusal_at-ancestor (frame_in ms) ms,
+      refusal_at-event (frame_in ms) ms,
+    ) (ap (λ (frame : Frame). option_or
+    (refusal_of (genome frame.least_length frame.greatest_length) code.Ancestor
+    (value_or code.Ancestor (string default_ancestor) ms))
+    (option_or (refusal_of (events 1000) code.Event (value_or code.Event (array no_items) ms)) None))
+    (frame_in-numbers ms numbers are))
 
 -- the letters of the ancestor at their key
 pub genome_at-ancestor : (ms : Members)
@@ -133,27 +130,20 @@ module _ (ms : Members) (numbers : Numbers) (are : AreNumbers ms numbers)
       → ancestor_refusal ms numbers ≡ Some stop
       → unless_refused (first_refusal keys ms) values ≡ Err stop
   refused_by_ancestor values stop h =
-      ap (λ o. unless_refused o values)
-      (first_refusal-last ms numbers are accepted
-      ∙ ap (λ o. option_or o (option_or (members_refusal ms) None)) h)
+      rw (first_refusal-last ms numbers are accepted, h) refl
 
   -- the events' kind or number is refused, and nothing before
   pub refused_by_members : (values : Result ConfigValues ConfigStop) (stop : ConfigStop)
       → ancestor_refusal ms numbers ≡ None → members_refusal ms ≡ Some stop
       → unless_refused (first_refusal keys ms) values ≡ Err stop
   refused_by_members values stop good h =
-      ap (λ o. unless_refused o values)
-      (first_refusal-last ms numbers are accepted
-      ∙ ap (λ o. option_or o (option_or (members_refusal ms) None)) good
-      ∙ ap (λ o. option_or o None) h)
+      rw (first_refusal-last ms numbers are accepted, good, h) refl
 
   -- no key is refused
   all_accepted : ancestor_refusal ms numbers ≡ None → members_refusal ms ≡ None
       → first_refusal keys ms ≡ None
   all_accepted good few =
-      first_refusal-last ms numbers are accepted
-      ∙ ap (λ o. option_or o (option_or (members_refusal ms) None)) good
-      ∙ ap (λ o. option_or o None) few
+      rw (first_refusal-last ms numbers are accepted, good, few) refl
 
   -- the events of the table are those of its members, in the frame of the numbers
   events_of-members : (members : List Value)
@@ -161,8 +151,7 @@ module _ (ms : Members) (numbers : Numbers) (are : AreNumbers ms numbers)
       → events_of (frame_in ms) (items_at code.Event ms)
       ≡ events_of (numbers_frame numbers) (items_view members)
   events_of-members members same =
-      ap (λ frame. events_of frame (items_at code.Event ms)) (frame_in-numbers ms numbers are)
-      ∙ ap (events_of (numbers_frame numbers)) (items_at-event ms ∙ ap items_of_value same)
+      rw (frame_in-numbers ms numbers are, items_at-event ms, same) refl
 
   -- an event is refused, and nothing before
   pub refused_by_events : (members : List Value) (stop : ConfigStop)
@@ -172,10 +161,8 @@ module _ (ms : Members) (numbers : Numbers) (are : AreNumbers ms numbers)
       → unless_refused (first_refusal keys ms)
       (values_with ms (events_of (frame_in ms) (items_at code.Event ms))) ≡ Err stop
   refused_by_events members stop good few same h =
-      ap (λ o. unless_refused o (values_with ms (events_of (frame_in ms) (items_at code.Event ms))))
-      (all_accepted good few)
-      ∙ values_with-refused ms (events_of (frame_in ms) (items_at code.Event ms)) stop
-      (ap event_refusal (events_of-members members same) ∙ h)
+      rw (all_accepted good few, events_of-members members same)
+      (values_with-refused ms (events_of (numbers_frame numbers) (items_view members)) stop h)
 
   -- nothing is refused
   pub accepted_values : (members : List Value) (happening : List EventValue)
@@ -186,6 +173,4 @@ module _ (ms : Members) (numbers : Numbers) (are : AreNumbers ms numbers)
       (values_with ms (events_of (frame_in ms) (items_at code.Event ms)))
       ≡ Ok (values_in_table ms happening)
   accepted_values members happening good few same h =
-      ap (λ o. unless_refused o (values_with ms (events_of (frame_in ms) (items_at code.Event ms))))
-      (all_accepted good few)
-      ∙ ap (values_with ms) (events_of-members members same ∙ h)
+      rw (all_accepted good few, events_of-members members same, h) refl
