@@ -1,6 +1,6 @@
 -- Whoever may stand in a cell has lines that come in their place.
-use Rattle.std.proofs.Common.{◌≡◌, ℕ, ◌<◌, ◌≤◌, ◌*◌, ◌==◌, Bool, true, false, List, ◌∷◌, ◌++◌, Some, length, get_or, refl, sym, ap, subst, ◌∙◌, arith, length-append, eq-eqb, inl, inr}
-use Rattle.std.specs.Prelude.{◌&&◌, ◌^◌, nat_le, nat_lt, not, slice_get, if◌then◌else◌}
+use Rattle.std.proofs.Common.{◌≡◌, ℕ, ◌<◌, ◌≤◌, ◌*◌, ◌==◌, true, List, ◌∷◌, ◌++◌, Some, length, get_or, refl, sym, ap, subst, ◌∙◌, arith, length-append, eq-eqb, inl, inr}
+use Rattle.std.specs.Prelude.{◌^◌, nat_lt, not, slice_get, if◌then◌else◌}
 use Rattle.std.proofs.lemmas.Bool.{cases_Bool, le-leb, lt-ltb, ne_eqb}
 use Rattle.std.proofs.lemmas.List.Sums.{list_all-from_AllPass}
 use Rattle.std.proofs.lemmas.Option.{slice_get-get_or}
@@ -10,15 +10,9 @@ use Rattle.virtual_cpu.specs.Image.{image_of, machine_of_image}
 use Rattle.virtual_cpu.specs.Machine.{Machine, IsMachine}
 use Rattle.world_rules.specs.World.{Occupant}
 use Rattle.saved_lines.specs.SavedValues.{HeadValues, OrganismValues}
-use Rattle.saved_worlds.specs.SavedGrammar.{Placed, are_within, is_above, is_new, is_young, may_follow, may_stand, placed_of}
+use Rattle.saved_worlds.specs.SavedGrammar.{Placed, is_above, is_new, is_young, may_follow, may_stand, placed_of}
 use Rattle.saved_worlds.specs.SavedWorldText.{values_in}
 use Rattle.saved_worlds.specs.ValidState.{AreSaved, MayStandThere}
-
--- both tests are passed
-pub both : (a b : Bool) → a ≡ true → b ≡ true → (a && b) ≡ true
-both true true p q = refl
-both true false p q = q
-both false b p q = p
 
 -- what stands in front of others in a list
 at_front : {X : Type 0} (xs ys : List X) (k : ℕ) (d : X) → k < length xs
@@ -61,11 +55,8 @@ module _ (head : HeadValues) (placed : List Placed) (one : Placed) (others : Lis
 young_again : (head : HeadValues) (o : OrganismValues)
     → (head.death ≡ true → o.age < head.age_limit * length o.genome) → is_young head o ≡ true
 young_again head o young = elim (cases_Bool head.death) [
-  | inl is ↦ subst (λ (b : Bool).
-      (if b then nat_lt o.age (head.age_limit * length o.genome) else true) ≡ true) (sym is)
-      (lt-ltb o.age (head.age_limit * length o.genome) (young is))
-  | inr not ↦ subst (λ (b : Bool).
-      (if b then nat_lt o.age (head.age_limit * length o.genome) else true) ≡ true) (sym not) refl
+  | inl is ↦ rw (is, lt-ltb o.age (head.age_limit * length o.genome) (young is)) refl
+  | inr not ↦ rw not refl
 ]
 
 module _ (head : HeadValues) (cell : ℕ) (o : Occupant)
@@ -76,34 +67,19 @@ module _ (head : HeadValues) (cell : ℕ) (o : Occupant)
   stands_again placed above fresh =
       let lives = stands.occupant in
       let size = length o.organism.genome in
-      let in_world = lt-ltb cell (head.width * head.height) stands.cell in
-      let id = lt-ltb o.id head.next_id lives.id in
-      let merit = both (nat_le 1 o.organism.merit) (nat_le o.organism.merit (2 ^ 38))
-      (le-leb 1 o.organism.merit lives.sound.some_merit)
-      (le-leb o.organism.merit (2 ^ 38) lives.sound.merit) in
-      let long = both (nat_le head.rules.least size) (nat_le size head.rules.greatest)
-      (le-leb head.rules.least size lives.genome.0)
-      (le-leb size head.rules.greatest lives.genome.1) in
-      let age = both (nat_lt o.organism.age (2 ^ 48)) (nat_le o.organism.read o.organism.age)
-      (lt-ltb o.organism.age (2 ^ 48) lives.age)
-      (le-leb o.organism.read o.organism.age lives.sound.organism.read) in
-      let young = young_again head (values_in cell o) lives.young in
-      let is_in = nat_lt cell (head.width * head.height) in
-      let is_over = is_above cell placed in
-      let is_id = nat_lt o.id head.next_id in
-      let is_fresh = is_new o.id placed in
-      let is_merit = nat_le 1 o.organism.merit && nat_le o.organism.merit (2 ^ 38) in
-      let is_long = nat_le head.rules.least size && nat_le size head.rules.greatest in
-      let is_age = nat_lt o.organism.age (2 ^ 48) && nat_le o.organism.read o.organism.age in
-      let two = both is_in is_over in_world above in
-      let three = both (is_in && is_over) is_id two id in
-      let four = both ((is_in && is_over) && is_id) is_fresh three fresh in
-      let five = both (((is_in && is_over) && is_id) && is_fresh) is_merit four merit in
-      let six = both ((((is_in && is_over) && is_id) && is_fresh) && is_merit) is_long five long in
-      let seven = both (((((is_in && is_over) && is_id) && is_fresh) && is_merit) && is_long) is_age
-      six age in
-      both ((((((is_in && is_over) && is_id) && is_fresh) && is_merit) && is_long) && is_age)
-      (is_young head (values_in cell o)) seven young
+      rw (
+        lt-ltb cell (head.width * head.height) stands.cell,
+        above,
+        lt-ltb o.id head.next_id lives.id,
+        fresh,
+        le-leb 1 o.organism.merit lives.sound.some_merit,
+        le-leb o.organism.merit (2 ^ 38) lives.sound.merit,
+        le-leb head.rules.least size lives.genome.0,
+        le-leb size head.rules.greatest lives.genome.1,
+        lt-ltb o.organism.age (2 ^ 48) lives.age,
+        le-leb o.organism.read o.organism.age lives.sound.organism.read,
+        young_again head (values_in cell o) lives.young,
+      ) refl
 
   -- and that of its machine
   pub follows_again :
@@ -118,29 +94,17 @@ module _ (head : HeadValues) (cell : ℕ) (o : Occupant)
       (omega (arith, is.greatest, stands.occupant.limit)) in
       let growth = le-leb size most
       (subst (λ (n : ℕ). size ≤ (if m.pending then 6 else 2) * n) birth_length is.growth) in
-      let flow = both (nat_lt m.heads.flow size) true (lt-ltb m.heads.flow size is.flow) refl in
-      let write = both (nat_lt m.heads.write size) (nat_lt m.heads.flow size && true)
-      (lt-ltb m.heads.write size is.write) flow in
-      let read = both (nat_lt m.heads.read size)
-      (nat_lt m.heads.write size && (nat_lt m.heads.flow size && true))
-      (lt-ltb m.heads.read size is.read) write in
-      let heads = both (nat_lt m.heads.ip size)
-      (nat_lt m.heads.read size
-      && (nat_lt m.heads.write size && (nat_lt m.heads.flow size && true)))
-      (lt-ltb m.heads.ip size is.ip) read in
-      let is_clean = length m.clean == size in
-      let is_executed = length m.executed == size in
-      let is_copied = length m.copied == size in
-      let two = both is_clean is_executed (eq-eqb (length m.clean) size is.clean)
-      (eq-eqb (length m.executed) size is.executed) in
-      let three = both (is_clean && is_executed) is_copied two
-      (eq-eqb (length m.copied) size is.copied) in
-      let four = both ((is_clean && is_executed) && is_copied) (nat_le size head.memory_limit) three
-      limit in
-      let five = both (((is_clean && is_executed) && is_copied) && nat_le size head.memory_limit)
-      (nat_le size most) four growth in
-      both ((((is_clean && is_executed) && is_copied) && nat_le size head.memory_limit)
-      && nat_le size most) (are_within (image_of m)) five heads
+      rw (
+        eq-eqb (length m.clean) size is.clean,
+        eq-eqb (length m.executed) size is.executed,
+        eq-eqb (length m.copied) size is.copied,
+        limit,
+        growth,
+        lt-ltb m.heads.ip size is.ip,
+        lt-ltb m.heads.read size is.read,
+        lt-ltb m.heads.write size is.write,
+        lt-ltb m.heads.flow size is.flow,
+      ) refl
 
   -- the two lines are of the organism
   pub placed_again : ((m : Machine) → IsMachine m
@@ -150,10 +114,8 @@ module _ (head : HeadValues) (cell : ℕ) (o : Occupant)
   placed_again whole =
       let m = o.organism.machine in
       let same : machine_of_image (image_of m) (length o.organism.genome) head.memory_limit ≡ m =
-      ap (λ (n : ℕ). machine_of_image (image_of m) n head.memory_limit)
-      (sym stands.occupant.sound.organism.birth_length)
-      ∙ ap (λ (n : ℕ). machine_of_image (image_of m) m.birth_length n) (sym stands.occupant.limit)
-      ∙ whole m stands.occupant.sound.machine in
+      rw (sym stands.occupant.sound.organism.birth_length, sym stands.occupant.limit)
+      (whole m stands.occupant.sound.machine) in
       ap (λ (other : Machine). record {
         cell = cell;
         occupant = record { id = o.id; organism = record o.organism { machine = other } };

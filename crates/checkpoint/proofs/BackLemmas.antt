@@ -1,5 +1,5 @@
 -- A saved world that is written is read again.
-use Rattle.std.proofs.Common.{◌≡◌, ℕ, ◌+◌, ◌*◌, ◌<◌, ◌≤◌, Bool, true, List, [], ◌∷◌, ◌++◌, Option, Some, None, Result, Ok, length, replicate, refl, sym, ap, subst, ◌∙◌, arith, append_assoc, append-nil, length-append, eq-eqb}
+use Rattle.std.proofs.Common.{◌≡◌, ℕ, ◌+◌, ◌*◌, ◌<◌, ◌≤◌, true, List, [], ◌∷◌, ◌++◌, Option, Some, None, Result, Ok, length, replicate, refl, sym, ap, ◌∙◌, arith, append_assoc, append-nil, length-append, eq-eqb}
 use Rattle.std.specs.List.{enumerate_from, flat_map, AllByRecursion}
 use Rattle.std.specs.Prelude.{cond, fold, is_some}
 use Rattle.std.proofs.lemmas.List.Sums.{sum_by-cons}
@@ -8,7 +8,6 @@ use Rattle.world_rules.specs.World.{Occupant, id_of, ids_of}
 use Rattle.virtual_cpu.specs.Image.{image_of, machine_of_image}
 use Rattle.virtual_cpu.specs.Machine.{Machine, IsMachine}
 use Rattle.lineage_log.specs.Slots.{taken}
-use Rattle.log_lines.specs.Fields.{given}
 use Rattle.saved_lines.specs.SavedValues.{HeadValues}
 use Rattle.saved_lines.specs.SavedForms.{HasSavedForm}
 use Rattle.saved_lines.specs.SavedReading.{saved_line_of}
@@ -45,9 +44,7 @@ cells_again front first (Some o ∷ cells) same =
     omega (arith, same, length-append front (Some o ∷ [])) in
     let placed : with_placed (front ++ None ∷ others) (record { cell = first; occupant = o })
     ≡ front ++ Some o ∷ others =
-    subst (λ (n : ℕ).
-    with_placed (front ++ None ∷ others) (record { cell = n; occupant = o })
-    ≡ front ++ Some o ∷ others) (sym same) (set-append_seam front None others (Some o)) in
+    rw (same, set-append_seam front None others (Some o)) refl in
     ap (λ (l : List (Option Occupant)). fold with_placed l (standing_from (first + 1) cells))
     (placed ∙ sym (append_assoc front (Some o ∷ []) others))
     ∙ cells_again (front ++ Some o ∷ []) (first + 1) cells more
@@ -101,12 +98,10 @@ organism_on number head placed cell o rest back =
     (append_assoc (machine_row_text o) (10 ∷ []) rest) in
     let first : told_saved_line (Among head placed) (Organism values)
     ≡ Some (Halfway head placed values) =
-    ap (λ (b : Bool). given b (Halfway head placed values)) back.stands in
+    rw back.stands refl in
     let second : told_saved_line (Halfway head placed values) (MachineLine image)
     ≡ Some (Among head (placed ++ one ∷ [])) =
-    ap (λ (b : Bool). given b (Among head (placed ++ placed_of head values image ∷ [])))
-    back.follows
-    ∙ ap (λ (p : Placed). Some (Among head (placed ++ p ∷ []))) back.again in
+    rw (back.follows, back.again) refl in
     ap (λ (l : List ℕ). pieces_state number (Among head placed) (cut l)) text
     ∙ line_on number (Among head placed) (Halfway head placed values) (organism_row_text cell o)
     behind (Organism values) back.organism_plain back.organism first
@@ -122,8 +117,7 @@ pub cells_on : (number : ℕ) (head : HeadValues) (placed : List Placed) (first 
     ≡ pieces_state later (Among head (placed ++ standing_from first cells)) (cut rest))
 cells_on number head placed first [] rest back = (
   number,
-  ap (λ (l : List Placed). pieces_state number (Among head l) (cut rest))
-      (sym (append-nil placed)),
+  rw (append-nil placed) refl,
 )
 cells_on number head placed first (None ∷ cells) rest back =
     cells_on number head placed (first + 1) cells rest back
@@ -175,9 +169,7 @@ all_read_back spell whole head placed first (Some o ∷ cells) saved =
         again = placed_again head first o stands whole;
       },
       all_read_back spell whole head (placed ++ one ∷ []) (first + 1) cells
-          (subst (λ (l : List Placed). AreSaved head l)
-          (sym (append_assoc placed (one ∷ []) others))
-          saved),
+          (rw (append_assoc placed (one ∷ []) others) saved),
     )
 
 -- as many stand in cells as are counted there
@@ -227,8 +219,7 @@ read_back spell whole state is =
     let cells = cells_on 2 head [] 0 state.cells last
     (all_read_back spell whole head [] 0 state.cells saved) in
     let ends : told_saved_line (Among head standing) (Count count) ≡ Some (After after) =
-    ap (λ (b : Bool). given b (After after))
-    (eq-eqb count (length standing) (counted 0 state.cells)) in
+    rw (eq-eqb count (length standing) (counted 0 state.cells)) refl in
     let with_cells = λ (cells : List (Option Occupant)).
     let birth_length : SavedState = record { head = head; cells = cells } in birth_length in
     let again : after ≡ state =

@@ -1,5 +1,5 @@
 -- The lines of a saved world that goes on have their forms.
-use Rattle.std.proofs.Common.{◌≡◌, ℕ, ◌<◌, ◌≤◌, ◌*◌, ◌^◌, [], length, refl, arith}
+use Rattle.std.proofs.Common.{◌≡◌, ℕ, ◌<◌, ◌≤◌, ◌*◌, [], length, refl, arith}
 use Rattle.std.specs.Prelude.{ℤ, FitsSigned, slice_index_or}
 use Rattle.std.specs.Int.{w32}
 use Rattle.std.proofs.Math.Nat.{mul-le-mul_left}
@@ -40,8 +40,6 @@ organism_form head cell o in_range stands =
 -- the line of a machine
 pub machine_form : (m : Machine) → IsMachine m → HoldsWords m → IsMachineLine (image_of m)
 machine_form m is words =
-    let place = λ (head : ℕ) (there : head < length m.memory).
-    let small : head < 2 ^ 32 = omega (arith, there, is.greatest, is.limit) in small in
     let two : length m.stacks ≡ 2 = is.stacks in
     let stack = λ (k : ℕ) (there : k < 2).
     recursion_from_All (λ (n : ℤ). FitsSigned w32 n) (slice_index_or m.stacks k [])
@@ -49,24 +47,12 @@ machine_form m is words =
     record {
       registers = (refl, (words.ax, (words.bx, (words.cx, tt))));
       active = omega (arith, is.active);
-      heads = (
-        refl,
-        (
-          place m.heads.ip is.ip,
-          (
-            place m.heads.read is.read,
-            (place m.heads.write is.write, (place m.heads.flow is.flow, tt)),
-          ),
-        ),
-      );
+      heads = search arith;
       nops = is.template;
       first = (is.ten 0 [] (omega (arith, two)), stack 0 (omega arith));
       second = (is.ten 1 [] (omega (arith, two)), stack 1 (omega arith));
-      memory = record { least = is.least; greatest = omega (arith, is.greatest, is.limit) };
-      clean = record {
-        least = omega (arith, is.clean, is.least);
-        greatest = omega (arith, is.clean, is.greatest, is.limit);
-      };
+      memory = search arith;
+      clean = search arith;
       executed = omega (arith, is.executed, is.least);
       copied = omega (arith, is.copied, is.least);
     }

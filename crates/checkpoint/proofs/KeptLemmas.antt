@@ -1,5 +1,5 @@
 -- What is kept of the organisms that were told, with one organism more.
-use Rattle.std.proofs.Common.{◌≡◌, ℕ, zero, suc, ◌+◌, ◌≤◌, ◌==◌, Bool, true, false, cond, List, [], ◌∷◌, ◌++◌, Some, length, refl, sym, ap, subst, ◌∙◌, arith, inl, inr}
+use Rattle.std.proofs.Common.{◌≡◌, ℕ, zero, suc, ◌+◌, ◌≤◌, ◌==◌, Bool, true, false, cond, List, [], ◌∷◌, ◌++◌, Some, length, refl, ap, subst, arith, inl, inr}
 use Rattle.std.specs.List.{list_all}
 use Rattle.std.specs.Ordering.{nat_cmp}
 use Rattle.std.specs.Prelude.{◌⊎◌, ◌&&◌, not, nat_le, nat_lt, slice_get}
@@ -36,9 +36,8 @@ module _ (placed : List Placed) (one : Placed) where
       → next ≤ one.cell → (cell : ℕ)
       → is_above cell (placed ++ one ∷ []) ≡ nat_le (one.cell + 1) cell
   above_more next above fits cell =
-      all_more (λ (p : Placed). nat_lt p.cell cell) placed one
-      ∙ ap (λ (b : Bool). b && (nat_lt one.cell cell && true)) (above cell)
-      ∙ grind (arith, nat_tests, fits)
+      rw (all_more (λ (p : Placed). nat_lt p.cell cell) placed one, above cell)
+      (grind (arith, nat_tests, fits))
 
   -- new beside one more organism is what is new beside the others and has not its id
   pub new_more : (ids more : BTreeSet ℕ)
@@ -46,16 +45,12 @@ module _ (placed : List Placed) (one : Placed) where
       → Updates nat_cmp ids more one.occupant.id true → (id : ℕ)
       → is_new id (placed ++ one ∷ []) ≡ not (contains nat_cmp more id)
   new_more ids more fresh updates id =
-      let has : contains nat_cmp more id
-      ≡ cond (is_at (nat_cmp one.occupant.id) id) true (contains nat_cmp ids id) =
-      updates.0 id in
-      let same : is_at (nat_cmp one.occupant.id) id ≡ (one.occupant.id == id) =
-      at_key one.occupant.id id in
-      all_more (λ (p : Placed). not (p.occupant.id == id)) placed one
-      ∙ ap (λ (b : Bool). b && (not (one.occupant.id == id) && true)) (fresh id)
-      ∙ either (one.occupant.id == id) (contains nat_cmp ids id)
-      ∙ ap (λ (b : Bool). not (cond b true (contains nat_cmp ids id))) (sym same)
-      ∙ ap not (sym has)
+      rw (
+        all_more (λ (p : Placed). not (p.occupant.id == id)) placed one,
+        fresh id,
+        updates.0 id,
+        at_key one.occupant.id id,
+      ) (either (one.occupant.id == id) (contains nat_cmp ids id))
 
 -- what stands at a place of a list with one item more
 at_more : {X : Type 0} (items : List X) (item other : X) (place : ℕ)

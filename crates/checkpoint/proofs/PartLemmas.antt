@@ -1,5 +1,5 @@
 -- The text of cells, and of one cell more.
-use Rattle.std.proofs.Common.{◌≡◌, ℕ, zero, suc, ◌+◌, ◌<◌, List, [], ◌∷◌, ◌++◌, Option, None, length, take, sym, ap, ◌∙◌, arith, append_assoc, add-zero, zero-add}
+use Rattle.std.proofs.Common.{◌≡◌, ℕ, zero, suc, ◌+◌, ◌<◌, List, [], ◌∷◌, ◌++◌, Option, None, length, take, refl, sym, ap, ◌∙◌, arith, append_assoc, add-zero, zero-add}
 use Rattle.std.proofs.Math.Numerals.{add-one}
 use Rattle.std.specs.List.{enumerate_from, flat_map}
 use Rattle.std.specs.Prelude.{slice_index_or}
@@ -25,22 +25,15 @@ more_from first [] cell there = absurd (omega (arith, there))
 more_from first (one ∷ cells) zero there =
     append-nil (slot_text first one) ∙ ap (λ (n : ℕ). slot_text n one) (sym (add-zero first))
 more_from first (one ∷ cells) (suc cell) there =
-    let others = text_from (first + 1) cells cell in
-    let last = slice_index_or cells cell None in
     let place : (first + 1) + cell ≡ first + suc cell = omega arith in
-    ap (λ (l : List ℕ). slot_text first one ++ l)
-    (more_from (first + 1) cells cell (omega (arith, there)))
-    ∙ sym (append_assoc (slot_text first one) others (slot_text ((first + 1) + cell) last))
-    ∙ ap (λ (n : ℕ). (slot_text first one ++ others) ++ slot_text n last) place
+    rw (more_from (first + 1) cells cell (omega (arith, there)), append_assoc, place) refl
 
 -- the text of one cell more
 pub one_more : (cells : List (Option Occupant)) (cell : ℕ) → cell < length cells
     → first_cells_text cells (cell + 1)
     ≡ first_cells_text cells cell ++ slot_text cell (slice_index_or cells cell None)
 one_more cells cell there =
-    ap (λ (n : ℕ). first_cells_text cells n) (add-one cell) ∙ more_from 0 cells cell there
-    ∙ ap (λ (n : ℕ). first_cells_text cells cell ++ slot_text n (slice_index_or cells cell None))
-    (zero-add cell)
+    rw (add-one cell, more_from 0 cells cell there, zero-add cell) refl
 
 -- the text of all cells
 pub all_cells : (state : SavedState) → saved_text state
@@ -48,7 +41,4 @@ pub all_cells : (state : SavedState) → saved_text state
     ++ count_text (taken (ids_of state.cells))
 unfolding saved_text
 all_cells state =
-    let text = λ (cells : List (Option Occupant)). flat_map cell_text (enumerate_from 0 cells) in
-    ap (λ (cells : List (Option Occupant)).
-    saved_head_text state.head ++ text cells ++ count_text (taken (ids_of state.cells)))
-    (sym (take-length state.cells))
+    rw (take-length state.cells) refl

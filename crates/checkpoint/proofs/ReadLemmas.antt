@@ -1,5 +1,5 @@
 -- The loop over the pieces of a saved world.
-use Rattle.std.proofs.Common.{◌≡◌, ℕ, ◌+◌, List, ◌∷◌, Option, Some, Result, Bor, sym, ap, subst, ◌∙◌}
+use Rattle.std.proofs.Common.{◌≡◌, ℕ, ◌+◌, List, ◌∷◌, Option, Some, Result, Bor, ◌∙◌}
 use Rattle.std.specs.Option.{option_copied}
 use Rattle.log_lines.specs.Words.{pieces_of}
 use Rattle.saved_lines.specs.SavedReading.{saved_line_of}
@@ -16,10 +16,7 @@ module _ (number : ℕ) (place : SavedPlace) (left piece : List ℕ) (others : O
       → pieces_state number place (cut left) ≡ one_saved_piece number place (saved_line_of piece)
       (λ p. pieces_state (number + 1) p (cut behind.now))
   left_more behind is =
-      let pieces : cut left ≡ piece ∷ cut behind.now =
-      split ∙ ap (λ (o : Option (Bor (List ℕ))). piece ∷ pieces_of 10 (option_copied o)) is in
-      ap (λ (ps : List (List ℕ)). pieces_state number place ps) pieces
-      ∙ more_pieces number place piece behind.now
+      rw (split, is) (more_pieces number place piece behind.now)
 
   -- what is left goes on from the next place
   pub left_on : (next : SavedPlace) (behind : Bor (List ℕ)) → others ≡ Some behind
@@ -35,5 +32,4 @@ module _ (number : ℕ) (place : SavedPlace) (left piece : List ℕ) (others : O
       → IsFaultOf e (one_saved_piece number place (saved_line_of piece) f))
       → IsFaultOf e (pieces_state number place (cut left))
   left_faulty e behind is bad =
-      subst (λ (r : Result SavedState SavedStop). IsFaultOf e r) (sym (left_more behind is))
-      (bad (λ p. pieces_state (number + 1) p (cut behind.now)))
+      rw (left_more behind is) (bad (λ p. pieces_state (number + 1) p (cut behind.now)))

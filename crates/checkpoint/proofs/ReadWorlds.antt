@@ -65,23 +65,18 @@ module _ (takes : TakesForms) (made : LinesAreWritable) where
       → told_saved_line place line ≡ Some next → IsGood next
   told_good Before next (Head head) read good h =
       let same : Among head [] ≡ next = cc in subst IsGood same (none_saved head read)
-  told_good Before next (Organism o) read good h = absurd cc
-  told_good Before next (Machine image) read good h = absurd cc
-  told_good Before next (Count organisms) read good h = absurd cc
-  told_good (Among head placed) next (Head other) read good h = absurd cc
+  told_good Before next _ read good h = absurd cc
   told_good (Among head placed) next (Organism o) read good h =
       if_holds (may_stand head placed o) (Halfway head placed o) next h
       (λ stands. (good, stands, read))
-  told_good (Among head placed) next (Machine image) read good h = absurd cc
   told_good (Among head placed) next (Count organisms) read good h =
       if_holds (organisms == length placed) (After (state_of_lines head placed)) next h
       (λ same. made head placed good)
-  told_good (Halfway head placed o) next (Head other) read good h = absurd cc
-  told_good (Halfway head placed o) next (Organism other) read good h = absurd cc
+  told_good (Among head placed) next _ read good h = absurd cc
   told_good (Halfway head placed o) next (Machine image) read good h =
       if_holds (may_follow head o image) (Among head (placed ++ placed_of head o image ∷ [])) next h
       (λ follows. one_saved head placed o image good read follows)
-  told_good (Halfway head placed o) next (Count organisms) read good h = absurd cc
+  told_good (Halfway head placed o) next _ read good h = absurd cc
   told_good (After state) next line read good h = absurd cc
 
   -- the end of the bytes
@@ -89,9 +84,7 @@ module _ (takes : TakesForms) (made : LinesAreWritable) where
       → saved_end number place ≡ Ok state → IsWritable state
   end_good number (After state) other good h =
       let same : state ≡ other = cc in subst IsWritable same good
-  end_good number Before other good h = absurd cc
-  end_good number (Among head placed) other good h = absurd cc
-  end_good number (Halfway head placed o) other good h = absurd cc
+  end_good number _ other good h = absurd cc
 
   -- the last piece
   last_good : (number : ℕ) (place : SavedPlace) (piece : List ℕ) (state : SavedState)

@@ -1,7 +1,7 @@
 -- The organism of two lines that may come may stand in its cell.
-use Rattle.std.proofs.Common.{◌≡◌, ℕ, ℤ, zero, suc, ◌<◌, ◌≤◌, ◌*◌, ◌==◌, Bool, true, List, [], ◌∷◌, length, refl, subst, arith, pos}
+use Rattle.std.proofs.Common.{◌≡◌, ℕ, ℤ, zero, suc, ◌<◌, ◌≤◌, ◌*◌, true, List, [], ◌∷◌, length, refl, arith, pos}
 use Rattle.std.specs.List.{AllByRecursion, list_all}
-use Rattle.std.specs.Prelude.{All, ◌&&◌, ◌^◌, nat_le, nat_lt, slice_index_or, if◌then◌else◌, FitsSigned}
+use Rattle.std.specs.Prelude.{All, ◌^◌, nat_lt, slice_index_or, if◌then◌else◌, FitsSigned}
 use Rattle.std.specs.Int.{w32}
 use Rattle.std.proofs.lemmas.Bool.{and_parts, eqb-true, leb-true, ltb-true}
 use Rattle.std.proofs.lemmas.List.Elements.{All-cons, All-from_recursion}
@@ -32,28 +32,16 @@ pub record Stands (head : HeadValues) (placed : List Placed) (o : OrganismValues
 pub stands_by_rules : (head : HeadValues) (placed : List Placed) (o : OrganismValues)
     → may_stand head placed o ≡ true → Stands head placed o
 stands_by_rules head placed o is =
-    let cell = nat_lt o.cell (head.width * head.height) in
-    let above = is_above o.cell placed in
-    let id = nat_lt o.id head.next_id in
-    let fresh = is_new o.id placed in
-    let merit = nat_le 1 o.merit && nat_le o.merit (2 ^ 38) in
-    let size =
-    nat_le head.rules.least (length o.genome) && nat_le (length o.genome) head.rules.greatest in
-    let age = nat_lt o.age (2 ^ 48) && nat_le o.read o.age in
-    let young = is_young head o in
-    let by_young =
-    and_parts ((((((cell && above) && id) && fresh) && merit) && size) && age) young is in
-    let by_age =
-    and_parts (((((cell && above) && id) && fresh) && merit) && size) age by_young.0 in
-    let by_size = and_parts ((((cell && above) && id) && fresh) && merit) size by_age.0 in
-    let by_merit = and_parts (((cell && above) && id) && fresh) merit by_size.0 in
-    let by_fresh = and_parts ((cell && above) && id) fresh by_merit.0 in
-    let by_id = and_parts (cell && above) id by_fresh.0 in
-    let by_cell = and_parts cell above by_id.0 in
-    let merits = and_parts (nat_le 1 o.merit) (nat_le o.merit (2 ^ 38)) by_merit.1 in
-    let sizes = and_parts (nat_le head.rules.least (length o.genome))
-    (nat_le (length o.genome) head.rules.greatest) by_size.1 in
-    let ages = and_parts (nat_lt o.age (2 ^ 48)) (nat_le o.read o.age) by_age.1 in
+    let by_young = and_parts _ _ is in
+    let by_age = and_parts _ _ by_young.0 in
+    let by_size = and_parts _ _ by_age.0 in
+    let by_merit = and_parts _ _ by_size.0 in
+    let by_fresh = and_parts _ _ by_merit.0 in
+    let by_id = and_parts _ _ by_fresh.0 in
+    let by_cell = and_parts _ _ by_id.0 in
+    let merits = and_parts _ _ by_merit.1 in
+    let sizes = and_parts _ _ by_size.1 in
+    let ages = and_parts _ _ by_age.1 in
     record {
       cell = ltb-true o.cell (head.width * head.height) by_cell.0;
       above = by_cell.1;
@@ -83,17 +71,11 @@ pub follows_by_rules : (head : HeadValues) (o : OrganismValues) (image : CpuImag
 follows_by_rules head o image is =
     let size = length image.memory in
     let most = (if image.pending then 6 else 2) * length o.genome in
-    let clean = length image.clean == size in
-    let executed = length image.executed == size in
-    let copied = length image.copied == size in
-    let limit = nat_le size head.memory_limit in
-    let growth = nat_le size most in
-    let heads = are_within image in
-    let by_heads = and_parts ((((clean && executed) && copied) && limit) && growth) heads is in
-    let by_growth = and_parts (((clean && executed) && copied) && limit) growth by_heads.0 in
-    let by_limit = and_parts ((clean && executed) && copied) limit by_growth.0 in
-    let by_copied = and_parts (clean && executed) copied by_limit.0 in
-    let by_clean = and_parts clean executed by_copied.0 in
+    let by_heads = and_parts _ _ is in
+    let by_growth = and_parts _ _ by_heads.0 in
+    let by_limit = and_parts _ _ by_growth.0 in
+    let by_copied = and_parts _ _ by_limit.0 in
+    let by_clean = and_parts _ _ by_copied.0 in
     record {
       clean = eqb-true (length image.clean) size by_clean.0;
       executed = eqb-true (length image.executed) size by_clean.1;
@@ -164,9 +146,7 @@ module _ (head : HeadValues) (o : OrganismValues) (image : CpuImage) where
   young_there : head.death ≡ true → is_young head o ≡ true
       → o.age < head.age_limit * length o.genome
   young_there death young =
-      let most = head.age_limit * length o.genome in
-      ltb-true o.age most
-      (subst (λ (b : Bool). (if b then nat_lt o.age most else true) ≡ true) death young)
+      let below = rw death at young in ltb-true o.age (head.age_limit * length o.genome) below
 
   -- the organism of two lines may stand in its cell
   pub may_stand_there : (placed : List Placed) → IsHead head → IsOrganismLine o
