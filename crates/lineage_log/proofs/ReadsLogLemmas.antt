@@ -1,5 +1,5 @@
 -- The bytes of a log are read as what `log_of` gives, and as nothing else.
-use Rattle.std.proofs.Common.{◌≡◌, ℕ, ◌+◌, List, [], ◌∷◌, ◌++◌, length, Option, Some, None, Result, Ok, Err, refl, sym, ap, subst, ◌∙◌, arith, append_assoc, ◌⊎◌, inl, inr}
+use Rattle.std.proofs.Common.{◌≡◌, ℕ, ◌+◌, List, [], ◌∷◌, ◌++◌, length, Option, Some, None, Result, Ok, Err, refl, subst, arith, append_assoc, ◌⊎◌, inl, inr}
 use Rattle.std.specs.Prelude.{◌==◌, ◌≢◌}
 use Rattle.std.specs.List.{AllByRecursion}
 use Rattle.std.proofs.lemmas.Bool.{cases_Bool}
@@ -13,7 +13,7 @@ use Rattle.lineage_log.specs.declared.log_stop.LogStop.{LogStop}
 use Rattle.lineage_log.specs.declared.log_stop.LogStop.TheVariants as stop
 use Rattle.lineage_log.specs.declared.reason.Reason.{Reason}
 use Rattle.lineage_log.specs.declared.reason.Reason.TheVariants as reason
-use Rattle.lineage_log.specs.Order.{LogPlace, Before, Within, After, IsWhole, and_on, told, told_all}
+use Rattle.lineage_log.specs.Order.{LogPlace, Before, Within, After, IsWhole, told, told_all}
 use Rattle.lineage_log.specs.LogGrammar.{log_of, pieces_log, with_line}
 use Rattle.lineage_log.specs.LogValues.{with_front}
 use Rattle.lineage_log.specs.ReadsLog.{BeginsWith, IsFaulty, ReadsLog, lines_text, stop_at}
@@ -36,7 +36,7 @@ cut_cases (b ∷ bs) = elim (cases_Bool (b == 10)) [
       inr (record {
         piece = [];
         rest = bs;
-        text = ap (λ (x : ℕ). x ∷ bs) same;
+        text = rw same;
         pieces = rw is refl;
       })
   | inr not ↦ elim (cut_cases bs) [
@@ -44,7 +44,7 @@ cut_cases (b ∷ bs) = elim (cases_Bool (b == 10)) [
     | inr more ↦ inr (record {
       piece = b ∷ more.piece;
       rest = more.rest;
-      text = ap (λ (l : List ℕ). b ∷ l) more.text;
+      text = rw more.text;
       pieces = rw (not, more.pieces) refl;
     })
   ]
@@ -54,8 +54,8 @@ cut_cases (b ∷ bs) = elim (cases_Bool (b == 10)) [
 line_first : (spell : OneSpelling) (line : Line) (rest : List ℕ) → HasForm line
     → cut (line_text line ++ rest) ≡ row_text line ∷ cut rest
 line_first spell line rest fits =
-    ap cut (append_assoc (row_text line) (10 ∷ []) rest)
-    ∙ split_first 10 (row_text line) rest (spell.one_line line fits)
+    rw (append_assoc (row_text line) (10 ∷ []) rest)
+    (split_first 10 (row_text line) rest (spell.one_line line fits))
 
 -- ---- what the bytes are read as is what log_of gives
 
@@ -71,40 +71,36 @@ front_read : (spell : OneSpelling) (number : ℕ) (place to : LogPlace) (lines :
     → pieces_log number place (cut (lines_text lines ++ left))
     ≡ with_front lines (pieces_log (length lines + number) to (cut left))
 front_read spell number place to [] left fits order =
-    let none : number ≡ 0 + number = omega arith in
-    ap (λ (p : LogPlace). pieces_log number p (cut left)) (place_is place to order)
-    ∙ ap (λ (n : ℕ). pieces_log n to (cut left)) none
-    ∙ sym (front_none (pieces_log (0 + number) to (cut left)))
+    let none : 0 + number ≡ number = omega arith in
+    rw (place_is place to order, none, front_none (pieces_log number to (cut left)))
 front_read spell number place to (line ∷ lines) left fits order =
     let rest = lines_text lines ++ left in
     let step = went_on (told place line) (λ p. told_all p lines) to order in
-    let count : length lines + (number + 1) ≡ length (line ∷ lines) + number = omega arith in
-    ap (λ (bytes : List ℕ). pieces_log number place (cut bytes))
-    (append_assoc (line_text line) (lines_text lines) left)
-    ∙ ap (λ (ps : List (List ℕ)). pieces_log number place ps) (line_first spell line rest fits.0)
-    ∙ good_line number place (row_text line) rest line step.0 (number + 1)
-    (spell.again line fits.0) step.1 refl
-    ∙ ap (λ (r : Result (List Line) LogStop). with_line line r)
-    (front_read spell (number + 1) step.0 to lines left fits.1 step.2)
-    ∙ front_one line lines (pieces_log (length lines + (number + 1)) to (cut left))
-    ∙ ap (λ (n : ℕ). with_front (line ∷ lines) (pieces_log n to (cut left))) count
+    let count : length (line ∷ lines) + number ≡ length lines + (number + 1) = omega arith in
+    rw (
+      append_assoc (line_text line) (lines_text lines) left,
+      line_first spell line rest fits.0,
+      good_line number place (row_text line) rest line step.0 (number + 1) (spell.again line fits.0)
+          step.1 refl,
+      front_read spell (number + 1) step.0 to lines left fits.1 step.2,
+      front_one line lines (pieces_log (length lines + (number + 1)) to (cut left)),
+      count,
+    )
 
 -- at the end of the bytes the last line is wanting
 unended : (number : ℕ) (place : LogPlace) → ¬ IsWhole (Ok place)
     → pieces_log number place ([] ∷ []) ≡ Err (stop.Unended number)
-unended number Before not = refl
-unended number (Within r) not = refl
 unended number (After r) not = absurd (not tt)
+unended number _ not = refl
 
 -- bytes that begin with no line are a bad line
 no_line : (spell : OneSpelling) (number : ℕ) (place : LogPlace) (left : List ℕ) → left ≢ []
     → ((first : Line) → ¬ BeginsWith left first)
     → pieces_log number place (cut left) ≡ Err (stop.BadLine number)
 no_line spell number place left some none = elim (cut_cases left) [
-  | inl one ↦ ap (λ (ps : List (List ℕ)). pieces_log number place ps) one
-      ∙ last_one left some
-  | inr more ↦ ap (λ (ps : List (List ℕ)). pieces_log number place ps) more.pieces
-      ∙ bad_line number place more.piece more.rest (no_piece more (line_of more.piece) refl)
+  | inl one ↦ rw one (last_one left some)
+  | inr more ↦ rw more.pieces
+      (bad_line number place more.piece more.rest (no_piece more (line_of more.piece) refl))
 ] where
   -- what has no newline is a bad line
   last_one : (bytes : List ℕ) → bytes ≢ []
@@ -120,8 +116,7 @@ no_line spell number place left some none = elim (cut_cases left) [
       let taken = spell.takes more.piece line is in
       absurd (none line (record {
         rest = more.rest;
-        text = append_assoc (row_text line) (10 ∷ []) more.rest
-            ∙ ap (λ (w : List ℕ). w ++ 10 ∷ more.rest) taken.0 ∙ more.text;
+        text = rw (append_assoc (row_text line) (10 ∷ []) more.rest, taken.0) more.text;
         form = taken.1;
       }))
 
@@ -140,7 +135,7 @@ fault_read : (spell : OneSpelling) (number : ℕ) (place : LogPlace) (left : Lis
 fault_read spell number place left (stop.Unended line) (at, none, not) =
     rw (none, at) (unended number place not)
 fault_read spell number place left (stop.BadLine line) (at, some, none) =
-    no_line spell number place left some none ∙ ap (λ (n : ℕ). Err (stop.BadLine n)) (sym at)
+    rw at (no_line spell number place left some none)
 fault_read spell number place left stop.Memory faulty = absurd faulty
 fault_read spell number place left (stop.BadOrder line) is =
     out_of_order spell number place left (stop.BadOrder line) is
@@ -155,9 +150,11 @@ pub reads_one_log : (spell : OneSpelling) (bytes : List ℕ) (answer : Result (L
 unfolding log_of
 reads_one_log spell bytes (Ok lines) (text, good) = read_back spell bytes lines text good
 reads_one_log spell bytes (Err why) (front, faulty) =
-    rw (← front.text) (front_read spell 1 Before front.place front.lines front.left front.forms front.order
-    ∙ ap (λ (r : Result (List Line) LogStop). with_front front.lines r)
-    (fault_read spell (length front.lines + 1) front.place front.left why faulty))
+    rw (
+      ← front.text,
+      front_read spell 1 Before front.place front.lines front.left front.forms front.order,
+      fault_read spell (length front.lines + 1) front.place front.left why faulty,
+    )
 
 -- ---- any bytes are read as something
 
@@ -188,10 +185,9 @@ HasAnswer number place bytes =
 at_once : (number : ℕ) (place : LogPlace) (bytes : List ℕ) (why : LogStop)
     → IsFaulty place number bytes why → HasAnswer number place bytes
 at_once number place bytes why faulty =
-    let none : number ≡ 0 + number = omega arith in
     let front : FrontFrom place bytes =
     record { lines = []; to = place; left = bytes; text = refl; forms = tt; order = refl } in
-    (Err why, (front, subst (λ (n : ℕ). IsFaulty place n bytes why) none faulty))
+    let none : 0 + number ≡ number = omega arith in (Err why, (front, rw none faulty))
 
 -- the answer at the end of the bytes
 at_end : (number : ℕ) (place : LogPlace) → HasAnswer number place []
@@ -206,12 +202,7 @@ after_line : (number : ℕ) (place next : LogPlace) (line : Line) (rest : List �
     → HasAnswer number place (line_text line ++ rest)
 after_line number place next line rest form order (Ok lines, (text, forms, whole)) = (
   Ok (line ∷ lines),
-  (
-    ap (λ (w : List ℕ). line_text line ++ w) text,
-    (form, forms),
-    subst (λ (t : Result LogPlace Reason). IsWhole (and_on t (λ p. told_all p lines)))
-        (sym order) whole,
-  ),
+  (rw text, (form, forms), rw order whole),
 )
 after_line number place next line rest form order (Err why, (front, faulty)) =
     let more : FrontFrom place (line_text line ++ rest) =
@@ -219,15 +210,13 @@ after_line number place next line rest form order (Err why, (front, faulty)) =
       lines = line ∷ front.lines;
       to = front.to;
       left = front.left;
-      text = append_assoc (line_text line) (lines_text front.lines) front.left
-          ∙ ap (λ (w : List ℕ). line_text line ++ w) front.text;
+      text = rw (append_assoc (line_text line) (lines_text front.lines) front.left, front.text);
       forms = (form, front.forms);
-      order = ap (λ (t : Result LogPlace Reason). and_on t (λ p. told_all p front.lines)) order
-          ∙ front.order;
+      order = rw order front.order;
     } in
-    let count : length front.lines + (number + 1) ≡ length (line ∷ front.lines) + number =
+    let count : length (line ∷ front.lines) + number ≡ length front.lines + (number + 1) =
     omega arith in
-    (Err why, (more, subst (λ (n : ℕ). IsFaulty front.to n front.left why) count faulty))
+    (Err why, (more, rw count faulty))
 
 -- the answer for a first line that is out of order
 at_bad_order : (number : ℕ) (place : LogPlace) (bytes : List ℕ) (first : Line) (reason : Reason)
@@ -262,27 +251,19 @@ module _ (spell : OneSpelling) where
   begin_pieces : (bytes : List ℕ) (first : Line) (begins : BeginsWith bytes first)
       → cut bytes ≡ row_text first ∷ cut begins.rest
   begin_pieces bytes first begins =
-      ap cut (sym begins.text) ∙ line_first spell first begins.rest begins.form
+      rw (← begins.text) (line_first spell first begins.rest begins.form)
 
   -- bytes without a newline begin with no line
   one_piece_none : (bytes : List ℕ) → cut bytes ≡ bytes ∷ [] → (first : Line)
       → ¬ BeginsWith bytes first
   one_piece_none bytes one first begins =
-      let some = cut_some begins.rest in
-      let same : bytes ∷ [] ≡ row_text first ∷ some.0 ∷ some.1 =
-      sym one ∙ rw some.2 at (begin_pieces bytes first begins) in
-      cc
+      let some = cut_some begins.rest in cc (begin_pieces bytes first begins)
 
   -- nor do bytes whose first piece is no line
   bad_piece_none : (bytes piece : List ℕ) (others : List (List ℕ)) → cut bytes ≡ piece ∷ others
       → line_of piece ≡ None → (first : Line) → ¬ BeginsWith bytes first
   bad_piece_none bytes piece others is none first begins =
-      let same : piece ∷ others ≡ row_text first ∷ cut begins.rest =
-      sym is ∙ begin_pieces bytes first begins in
-      let text : piece ≡ row_text first = cc in
-      let some : None ≡ Some first =
-      sym none ∙ ap line_of text ∙ spell.again first begins.form in
-      cc
+      cc (begin_pieces bytes first begins, spell.again first begins.form)
 
   -- the answer for bytes with a newline
   at_piece : (number : ℕ) (place : LogPlace) (bytes : List ℕ) (more : HasPiece bytes)
@@ -294,8 +275,7 @@ module _ (spell : OneSpelling) where
   at_piece number place bytes more others (Some line) is =
       let taken = spell.takes more.piece line is in
       let text : line_text line ++ more.rest ≡ bytes =
-      append_assoc (row_text line) (10 ∷ []) more.rest
-      ∙ ap (λ (w : List ℕ). w ++ 10 ∷ more.rest) taken.0 ∙ more.text in
+      rw (append_assoc (row_text line) (10 ∷ []) more.rest, taken.0) more.text in
       subst (λ (l : List ℕ). HasAnswer number place l) text
       (at_line number place line more.rest taken.1 others (told place line) refl)
 
@@ -303,9 +283,7 @@ module _ (spell : OneSpelling) where
   answered : (pieces : List (List ℕ)) (number : ℕ) (place : LogPlace) (bytes : List ℕ)
       → cut bytes ≡ pieces → HasAnswer number place bytes
   answered [] number place bytes is =
-      let some = cut_some bytes in
-      let none : [] ≡ some.0 ∷ some.1 = sym is ∙ some.2 in
-      absurd cc
+      let some = cut_some bytes in absurd cc
   answered (piece ∷ pieces) number place bytes is =
       by (λ n p rest same. answered pieces n p rest same) (cut_cases bytes)
     where
@@ -314,7 +292,6 @@ module _ (spell : OneSpelling) where
           → (cut bytes ≡ bytes ∷ []) ⊎ HasPiece bytes → HasAnswer number place bytes
       by behind (inl one) = at_no_line number place bytes (one_piece_none bytes one)
       by behind (inr more) =
-          let same : piece ∷ pieces ≡ more.piece ∷ cut more.rest = sym is ∙ more.pieces in
           let rest : cut more.rest ≡ pieces = cc in
           at_piece number place bytes more (λ next. behind (number + 1) next more.rest rest)
           (line_of more.piece) refl
