@@ -1,11 +1,13 @@
 -- Where each node is needed, the links that are left are those of the living and of their
 -- ancestors.
-use Rattle.std.proofs.Common.{◌≡◌, zero, eq-eqb, ne_eqb, inl, inr, ◌∙◌, refl, sym, ap, true≢false, ℕ, suc, ◌<◌, Bool, true, false, cond, eqb, List, [], ◌∷◌, ◌++◌, append_assoc, length, get_or, Option, Some, None, nat_cmp, arith}
+use Rattle.std.proofs.Common.{◌≡◌, zero, eq-eqb, inl, inr, ◌∙◌, refl, sym, ap, true≢false, ℕ, suc, ◌<◌, Bool, true, false, cond, List, [], ◌∷◌, ◌++◌, append_assoc, length, get_or, Option, Some, None, nat_cmp, arith}
 use Rattle.std.specs.Prelude.{All, Contains, IfSome, IsSome, filter, filter_map, is_some, option_and_then}
 use Rattle.std.specs.BTreeMap.{is_at}
 use Rattle.std.specs.Map.{set_value}
 use Rattle.std.specs.Option.{option_map_or}
-use Rattle.std.proofs.lemmas.Bool.{cases_Bool, cases_eq, false_from_ne_true}
+use Rattle.std.proofs.lemmas.Bool.{cases_Bool, false_from_ne_true}
+use Rattle.std.proofs.lemmas.Bool.Decides.{nat_tests}
+use Rattle.std.proofs.lemmas.Grind.{common_steps}
 use Rattle.lineage_log.specs.Links.{Link}
 use Rattle.lineage_log.specs.Ancestry.{ancestor_ids_of, is_kept, kept_of, link_of, parent_of}
 use Rattle.lineage_log.specs.Trees.{IsPruned, genome_in_tree, tree_with_death, without_id}
@@ -19,46 +21,26 @@ use Rattle.lineage_log.proofs.TreeLemmas.{fewer_same, found_new, is_there, set_i
 pub find_left : (left : ℕ → Bool) (id : ℕ) (links : List Link)
     → link_of (filter (λ (link : Link). left link.id) links) id
     ≡ cond (left id) (link_of links id) None
-find_left left id [] = elim (cases_Bool (left id)) [ inl inside ↦ rw inside | inr gone ↦ rw gone ]
-find_left left id (link ∷ links) = elim (cases_eq link.id id) [
-  | inl same ↦
-      let here = eq-eqb link.id id same in
-      elim (cases_Bool (left link.id)) [
-        | inl inside ↦ rw (inside, here, sym (ap left same) ∙ inside)
-        | inr gone ↦
-            let out = sym (ap left same) ∙ gone in
-            rw (gone, out) (find_left left id links ∙ rw out)
-      ]
-  | inr apart ↦
-      let other = ne_eqb link.id id apart in
-      elim (cases_Bool (left link.id)) [
-        | inl inside ↦ rw (inside, other) (find_left left id links)
-        | inr gone ↦ rw (gone, other) (find_left left id links)
-      ]
-]
+find_left left id [] = grind arith
+find_left left id (link ∷ links) = grind (arith, common_steps, nat_tests, find_left left id links)
 
 -- two tests that agree on each element filter alike
 pub filter_alike : (p q : Link → Bool) (links : List Link) → All (λ link. p link ≡ q link) links
     → filter p links ≡ filter q links
 filter_alike p q [] same = refl
 filter_alike p q (link ∷ links) same =
-    ap (λ b. cond b (link ∷ filter p links) (filter p links)) (same 0 link (omega arith))
-    ∙ ap (λ (others : List Link). cond (q link) (link ∷ others) others)
-    (filter_alike p q links (λ k d low. same (suc k) d (omega (arith, low))))
+    rw (
+      same 0 link (omega arith),
+      filter_alike p q links (λ k d low. same (suc k) d (omega (arith, low))),
+    )
 
 -- each of some links is found by its id
 pub found_at : (links : List Link) (k : ℕ) (d : Link) → k < length links
     → is_some (link_of links (get_or links k d).id) ≡ true
 found_at [] k d low = absurd (omega (arith, low))
 found_at (link ∷ links) zero d low = rw (eq-eqb link.id link.id refl)
-found_at (link ∷ links) (suc k) d low = elim (cases_Bool (eqb link.id (get_or links k d).id)) [
-  | inl inside ↦ rw inside
-  | inr gone ↦ rw gone (found_at links k d (omega (arith, low)))
-]
-
--- nothing isn't something
-none_some : (id : ℕ) → None ≡ Some id → ⊥
-none_some id same = true≢false (sym (ap is_some same))
+found_at (link ∷ links) (suc k) d low =
+    grind (arith, common_steps, found_at links k d (omega (arith, low)))
 
 module _ (before after : List (ℕ × NodeValue)) (old : AreFamilies before) (new : AreNodes after)
     (fewer : AreFewer before after) where
@@ -69,8 +51,7 @@ module _ (before after : List (ℕ × NodeValue)) (old : AreFamilies before) (ne
   -- the link of an id then
   at : (id : ℕ) → link_of (links_of after) id
       ≡ cond (fewer.left id) (link_of (links_of before) id) None
-  at id = ap (λ (links : List Link). link_of links id) fewer.links
-      ∙ find_left fewer.left id (links_of before)
+  at id = rw fewer.links (find_left fewer.left id (links_of before))
 
   -- who has a node then had a link that is left
   has_is : (id : ℕ) → is_some (node_at after id)
@@ -80,10 +61,7 @@ module _ (before after : List (ℕ × NodeValue)) (old : AreFamilies before) (ne
   -- who has a node then has the link of before
   same_link : (id : ℕ) → is_some (node_at after id) ≡ true
       → link_of (links_of after) id ≡ link_of (links_of before) id
-  same_link id h = elim (cases_Bool (fewer.left id)) [
-    | inl inside ↦ at id ∙ rw inside
-    | inr out ↦ absurd (true≢false (sym h ∙ has_is id ∙ rw out))
-  ]
+  same_link id h = grind (arith, common_steps, at id, has_is id, h)
 
   -- and the parent of before
   same_parent : (id : ℕ) → is_some (node_at after id) ≡ true
@@ -115,7 +93,7 @@ module _ (before after : List (ℕ × NodeValue)) (old : AreFamilies before) (ne
             let some : 0 < children_of after id =
             omega (
               arith,
-              new.needed id found.0 found.1 dies (none_some id),
+              new.needed id found.0 found.1 dies (λ same. cc),
               (new.families.each id found.0 found.1).counted,
             ) in
             let child = child_exists after id new.families.rising some in
@@ -210,7 +188,7 @@ laid before after id are lives change =
       needed = λ other node has dies hole.
           elim (found_new before after id new other node (set.at other) has) [
             | inl here ↦ absurd (hole (ap (λ (n : ℕ). Some n) here.0))
-            | inr apart ↦ are.needed other node apart.1 dies (none_some other)
+            | inr apart ↦ are.needed other node apart.1 dies (λ same. cc)
           ];
       links = ap links_of e ∙ links_set before id old new is (λ key. refl);
       living = ap living_ids_of e ∙ living_dead before id old new are.families.rising is refl;
@@ -255,8 +233,7 @@ back_once nodes front links id node are is all =
       link_there nodes id,
       is,
     ) in
-    append_assoc front (node_link id node ∷ []) (links_back nodes node.parent)
-    ∙ ap (λ (rest : List Link). front ++ rest) (sym here) ∙ all
+    rw (append_assoc front (node_link id node ∷ []) (links_back nodes node.parent), ← here) all
 
 -- a parent is there
 pub parent_stands : (nodes : List (ℕ × NodeValue)) (id : ℕ) (node : NodeValue) (next : Option ℕ)

@@ -5,7 +5,6 @@ use Rattle.std.specs.BTreeMap.{insert_entry, is_at}
 use Rattle.std.specs.Cmp.{nat_cmp_is, nat_cmp_total, ranked, unsigned_tied}
 use Rattle.std.specs.List.{AllByRecursion, IsDistinct}
 use Rattle.std.specs.Map.{keys_of, lookup, remove_entry, set_value}
-use Rattle.std.specs.Option.{unwrap_or}
 use Rattle.std.specs.Ordering.{eq_by_cmp, is_eq}
 use Rattle.std.specs.List.Sorted.{IsStrictlySortedBy}
 use Rattle.std.proofs.lemmas.Cmp.{eq_by_cmp_equiv, nat_eq_equiv}
@@ -136,25 +135,22 @@ not_above : (d e : ℕ × NodeValue) (ds es : List (ℕ × NodeValue)) → Rises
 not_above d e ds es rising same below =
     let none = lookup-none (is_at (nat_cmp d.0)) (e ∷ es)
     (none_below_head nat_cmp_total d.0 e es rising (sym (nat_cmp_is d.0 e.0 Less below))) in
-    let some : Some d.1 ≡ None = sym (first_node d ds d.0 (itself d.0)) ∙ same ∙ none in cc
+    cc (first_node d ds d.0 (itself d.0))
 
 -- the lists are one
 pub one_order : (ds es : List (ℕ × NodeValue)) → Rises ds → Rises es
     → ((id : ℕ) → node_at ds id ≡ node_at es id) → ds ≡ es
 one_order [] [] low high same = refl
-one_order [] (e ∷ es) low high same = absurd
-    (let some : None ≡ Some e.1 = same e.0 ∙ first_node e es e.0 (itself e.0) in cc)
-one_order (d ∷ ds) [] low high same = absurd
-    (let some : Some d.1 ≡ None = sym (first_node d ds d.0 (itself d.0)) ∙ same d.0 in cc)
+one_order [] (e ∷ es) low high same = absurd (cc (same e.0, first_node e es e.0 (itself e.0)))
+one_order (d ∷ ds) [] low high same = absurd (cc (same d.0, first_node d ds d.0 (itself d.0)))
 one_order (d ∷ ds) (e ∷ es) low high same =
     elim (compared d.0 e.0) [
       | inl below ↦ absurd (not_above d e ds es high (same d.0) below.0)
       | inr (inr above) ↦ absurd (not_above e d es ds low (sym (same e.0)) above.0)
       | inr (inl equal) ↦
           let key = equal.0 in
-          let value : d.1 ≡ e.1 = ap (λ (o : Option NodeValue). unwrap_or o d.1)
-          (sym (first_node d ds d.0 (itself d.0)) ∙ same d.0
-          ∙ first_node e es d.0 (ap is_eq equal.1)) in
+          let value : d.1 ≡ e.1 = cc
+          (same d.0, first_node d ds d.0 (itself d.0), first_node e es d.0 (ap is_eq equal.1)) in
           let tails = one_order ds es (sorted_tail nat_cmp d.0 (keys_of ds) low)
           (sorted_tail nat_cmp e.0 (keys_of es) high) (λ id. elim (by_key id d.0) [
             | inl here ↦ none_behind d ds id low here.1 ∙ sym (none_behind e es id high
@@ -178,10 +174,9 @@ pub order_finds : (nodes : List (ℕ × NodeValue)) (id : ℕ)
     → node_at (id_order nodes) id ≡ lookup (nat_eq id) nodes
 order_finds [] id = refl
 order_finds (e ∷ es) id = elim (by_key id e.0) [
-  | inl here ↦ subst (λ k. node_at (insert_entry nat_cmp (id_order es) k e.1) id ≡ Some e.1)
-      here.0 (put_here (id_order es) id e.1) ∙ rw (sym (unsigned_tied id e.0) ∙ here.1)
-  | inr apart ↦ put_apart (id_order es) e.0 e.1 id (λ same. apart.0 (sym same))
-      ∙ order_finds es id ∙ rw (sym (unsigned_tied id e.0) ∙ apart.1)
+  | inl here ↦ rw (sym (unsigned_tied id e.0) ∙ here.1, ← here.0) (put_here (id_order es) id e.1)
+  | inr apart ↦ rw (sym (unsigned_tied id e.0) ∙ apart.1)
+      (put_apart (id_order es) e.0 e.1 id (λ same. apart.0 (sym same)) ∙ order_finds es id)
 ]
 
 -- what is put anywhere is put in order
@@ -193,9 +188,8 @@ order_put before after id node at =
     one_order (id_order after) (insert_entry nat_cmp (id_order before) id node)
     (order_rises after) (rises_put (id_order before) id node (order_rises before))
     (λ other. order_finds after other ∙ at other ∙ elim (by_key id other) [
-      | inl here ↦ rw (sym (unsigned_tied id other) ∙ here.1)
-          (sym (subst (λ k. node_at (insert_entry nat_cmp (id_order before) id node) k ≡ Some node)
-          here.0 (put_here (id_order before) id node)))
+      | inl here ↦ rw (sym (unsigned_tied id other) ∙ here.1, ← here.0)
+          (sym (put_here (id_order before) id node))
       | inr apart ↦ rw (sym (unsigned_tied id other) ∙ apart.1) (sym (order_finds before other)
           ∙ sym (put_apart (id_order before) id node other apart.0))
     ])
@@ -234,9 +228,11 @@ insert_is_set (e ∷ es) id node rising is = elim (compared id e.0) [
   | inl below ↦ absurd (let none = lookup-none (is_at (nat_cmp id)) (e ∷ es)
       (none_below_head nat_cmp_total id e es rising below.1) in cc)
   | inr (inl same) ↦ rw same.1
-  | inr (inr above) ↦ rw above.1 (ap (λ (rest : List (ℕ × NodeValue)). e ∷ rest)
-      (insert_is_set es id node (sorted_tail nat_cmp e.0 (keys_of es) rising)
-      (subst IsSome (other_node e es id (ap is_eq above.1)) is)))
+  | inr (inr above) ↦ rw (
+    above.1,
+    insert_is_set es id node (sorted_tail nat_cmp e.0 (keys_of es) rising)
+        (subst IsSome (other_node e es id (ap is_eq above.1)) is),
+  )
 ]
 
 -- what is set anywhere is set in order
@@ -270,8 +266,7 @@ put_length : (nodes : List (ℕ × NodeValue)) (id : ℕ) (node : NodeValue) →
 put_length [] id node none = refl
 put_length (e ∷ es) id node none = elim (compared id e.0) [
   | inl below ↦ rw below.1 (omega arith)
-  | inr (inl same) ↦ absurd (let some : Some e.1 ≡ None =
-      sym (first_node e es id (ap is_eq same.1)) ∙ none in cc)
+  | inr (inl same) ↦ absurd (cc (first_node e es id (ap is_eq same.1)))
   | inr (inr above) ↦ rw above.1
       (omega (arith, put_length es id node (sym (other_node e es id (ap is_eq above.1)) ∙ none)))
 ]
