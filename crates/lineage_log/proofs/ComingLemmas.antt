@@ -1,16 +1,15 @@
 -- What an organism that comes does to the nodes of a tree.
-use Rattle.std.proofs.Common.{◌≡◌, ◌≢◌, ◌⊎◌, inl, inr, ⊎_elim, ◌∙◌, refl, sym, ap, subst, true≢false, ℕ, ◌+◌, ◌<◌, ◌≤◌, true, false, cond, List, length, Option, Some, None, nat_cmp, arith}
-use Rattle.std.specs.Prelude.{All, IsSome, is_some}
+use Rattle.std.proofs.Common.{◌≡◌, ◌≢◌, ◌⊎◌, inl, inr, ◌∙◌, refl, sym, ap, ℕ, ◌+◌, ◌<◌, ◌≤◌, true, cond, List, length, Some, None, nat_cmp, arith}
+use Rattle.std.specs.Prelude.{All, IsSome}
 use Rattle.std.specs.BTreeMap.{insert_entry, is_at}
 use Rattle.std.specs.Cmp.{nat_cmp_total}
 use Rattle.std.specs.List.Sorted.{IsStrictlySortedBy}
 use Rattle.std.specs.Map.{keys_of, set_value}
-use Rattle.std.specs.Option.{option_map, unwrap_or}
 use Rattle.std.proofs.lemmas.Map.Entries.{sum_by-insert_entry}
-use Rattle.std.proofs.lemmas.Bool.{cases_lt, cond-false}
+use Rattle.std.proofs.lemmas.Bool.{cases_lt}
 use Rattle.lineage_log.specs.Links.{Link}
 use Rattle.lineage_log.specs.Trees.{CanCome, tree_with_newcomer}
-use Rattle.lineage_log.specs.Nodes.{NodeValue, AreFamilies, AreNodes, IsInFamily, as_child, children_of, links_of, living_ids_of, node_at, node_link, tree_of}
+use Rattle.lineage_log.specs.Nodes.{NodeValue, AreFamilies, AreNodes, IsInFamily, as_child, children_of, links_of, node_at, node_link, tree_of}
 use Rattle.lineage_log.proofs.NodeLemmas.{by_key, child_apart, child_exists, child_is, children_few, founder_is, is_some_link, some_of}
 use Rattle.lineage_log.proofs.LivingLemmas.{insert_last, links_newcomer, links_set, living_newcomer, living_set, newest_above, none_newest}
 use Rattle.lineage_log.proofs.TreeLemmas.{IsSet, found_new, is_there, set_is, still_there}
@@ -31,14 +30,10 @@ pub has_come : (before after : List (ℕ × NodeValue)) (id : ℕ) (new : NodeVa
 has_come before after id new rising rises none e at = record {
   rising = rises;
   at = at;
-  kids = λ other.
-      let was = ap (λ (o : Option NodeValue). unwrap_or (option_map (as_child other) o) 0) none in
-      omega (
-        arith,
-        ap (λ (nodes : List (ℕ × NodeValue)). children_of nodes other) e,
-        sum_by-insert_entry (as_child other) nat_cmp_total before id new rising,
-        was,
-      );
+  kids = λ other. rw e (omega (
+    arith,
+    rw none at (sum_by-insert_entry (as_child other) nat_cmp_total before id new rising),
+  ));
 }
 
 -- nobody is a child of who is not there
@@ -47,8 +42,7 @@ no_children : (nodes : List (ℕ × NodeValue)) (id : ℕ) → AreFamilies nodes
 no_children nodes id are none = elim (cases_lt 0 (children_of nodes id)) [
   | inl some ↦
       let child = child_exists nodes id are.rising some in
-      absurd (true≢false (sym ((are.each child.0 child.1 child.2).there id child.3)
-      ∙ ap is_some none))
+      absurd (let found = rw none at ((are.each child.0 child.1 child.2).there id child.3) in cc)
   | inr few ↦ few
 ]
 
@@ -130,11 +124,10 @@ module _ (before mid : List (ℕ × NodeValue)) (id : ℕ) (new : NodeValue) (ar
     -- so is the child
     fit_child : IsInFamily after id new
     fit_child = record {
-      older = λ higher h. subst (λ n. n < id) (ap (λ (o : Option ℕ). unwrap_or o 0) (sym child ∙ h))
-          older;
-      there = λ higher h. still_there mid after above more higher (set.at higher)
-          (stays higher (is_there (node_at before higher) parent
-          (ap (node_at before) (ap (λ (o : Option ℕ). unwrap_or o 0) (sym h ∙ child)) ∙ above_is)));
+      older = λ higher h. let same : above ≡ higher = cc in omega (arith, older);
+      there = λ higher h. let same : above ≡ higher = cc in
+          still_there mid after above more higher (set.at higher)
+          (stays higher (is_there (node_at before higher) parent (rw (← same) above_is)));
       counted = omega (
         arith,
         childless,
@@ -188,10 +181,11 @@ pub tree_come : (before after : List (ℕ × NodeValue)) (id : ℕ) (new : NodeV
     → after ≡ insert_entry nat_cmp before id new
     → tree_of after ≡ tree_with_newcomer (tree_of before) (node_link id new)
 tree_come before after id new newest lives e =
-    let last = e ∙ insert_last before id new newest in
-    let links = ap links_of last ∙ links_newcomer before id new in
-    let living = ap living_ids_of last ∙ living_newcomer before id new lives in
-    λ i. record { links = links i; living = living i }
+    rw (
+      e ∙ insert_last before id new newest,
+      links_newcomer before id new,
+      living_newcomer before id new lives,
+    )
 
 -- a node has another number of children
 pub tree_set : (before after : List (ℕ × NodeValue)) (id children : ℕ) (old : NodeValue)
@@ -199,11 +193,8 @@ pub tree_set : (before after : List (ℕ × NodeValue)) (id children : ℕ) (old
     → after ≡ set_value (is_at (nat_cmp id)) before (record old { children = children })
     → tree_of after ≡ tree_of before
 tree_set before after id children old is e =
-    let links = ap links_of e
-    ∙ links_set before id old (record old { children = children }) is (λ key. refl) in
-    let living =
-    ap living_ids_of e ∙ living_set before id old (record old { children = children }) is refl in
-    λ i. record { links = links i; living = living i }
+    let new : NodeValue = record old { children = children } in
+    rw (e, links_set before id old new is (λ key. refl), living_set before id old new is refl)
 
 -- what a newcomer does to the nodes before its parent has another child
 pub record Comes (before mid : List (ℕ × NodeValue)) (link : Link) (new : NodeValue) : Type 0 where
@@ -280,12 +271,10 @@ child_enters before mid after link new above are can is child raise =
   where
     apart : above < link.id → cond (is_at (nat_cmp link.id) above) (Some new) (node_at before above)
         ≡ node_at before above
-    apart older = ⊎_elim
-        (λ (here : (link.id ≡ above) × (is_at (nat_cmp link.id) above ≡ true)).
-        absurd (omega (arith, older, here.0)))
-        (λ (far : (link.id ≢ above) × (is_at (nat_cmp link.id) above ≡ false)).
-        cond-false (is_at (nat_cmp link.id) above) (Some new) (node_at before above) far.1)
-        (by_key link.id above)
+    apart older = elim (by_key link.id above) [
+      | inl here ↦ absurd (omega (arith, older, here.0))
+      | inr far ↦ rw far.1
+    ]
 
 -- a founder enters
 pub founder_enters : (before mid : List (ℕ × NodeValue)) (link : Link) (new : NodeValue)

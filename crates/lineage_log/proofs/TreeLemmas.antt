@@ -3,12 +3,10 @@ use Rattle.std.proofs.Common.{◌≡◌, ◌≢◌, ◌⊎◌, inl, inr, ◌∙�
 use Rattle.std.specs.Prelude.{IsSome, filter}
 use Rattle.std.specs.BTreeMap.{is_at}
 use Rattle.std.specs.Cmp.{nat_cmp_total}
-use Rattle.std.specs.List.Sorted.{IsStrictlySortedBy}
 use Rattle.std.specs.Map.{keys_of, remove_entry, set_value}
-use Rattle.std.specs.Option.{option_map, unwrap_or}
 use Rattle.std.specs.Ordering.{eq_by_cmp}
-use Rattle.std.proofs.lemmas.Bool.{cases_Bool}
 use Rattle.std.proofs.lemmas.Cmp.{eq_by_cmp_equiv}
+use Rattle.std.proofs.lemmas.Grind.{common_steps}
 use Rattle.std.proofs.lemmas.Map.{lookup-remove_entry, lookup-set_value, keys-set_value}
 use Rattle.std.proofs.lemmas.Map.Entries.{sum_by-remove_entry, sum_by-set_value}
 use Rattle.std.proofs.lemmas.Map.Keys.{IsDistinct-from_sorted}
@@ -24,7 +22,7 @@ is_there found x is = subst IsSome (sym is) refl
 -- one thing isn't two
 pub one_node : (found : Option NodeValue) (one other : NodeValue) → found ≡ Some one
     → found ≡ Some other → one ≡ other
-one_node found one other is has = ap (λ (o : Option NodeValue). unwrap_or o one) (sym is ∙ has)
+one_node found one other is has = cc
 
 -- what stands there where one node is new
 pub found_new : (before after : List (ℕ × NodeValue)) (id : ℕ) (new : NodeValue) (other : ℕ)
@@ -62,20 +60,14 @@ pub set_is : (before after : List (ℕ × NodeValue)) (id : ℕ) (old new : Node
 set_is before after id old new rising is same e =
     let laws = eq_by_cmp_equiv nat_cmp_total in
     record {
-      rising = subst (IsStrictlySortedBy nat_cmp)
-          (sym (ap keys_of e ∙ keys-set_value (is_at (nat_cmp id)) before new)) rising;
-      at = λ other. ap (λ (nodes : List (ℕ × NodeValue)). node_at nodes other) e
-          ∙ lookup-set_value {eq = eq_by_cmp nat_cmp} laws (is_at (nat_cmp id))
-          (λ x y h. laws.congr id x y h) other new before (is_there (node_at before id) old is);
-      kids = λ other.
-          let one : as_child other new ≡ as_child other old = ap (one_for other) same in
-          ap (λ (nodes : List (ℕ × NodeValue)). children_of nodes other) e
-          ∙ omega (
-            arith,
-            sum_by-set_value (as_child other) (is_at (nat_cmp id)) before old new
-                is,
-            one,
-          );
+      rising = rw (e, keys-set_value (is_at (nat_cmp id)) before new) rising;
+      at = λ other. rw e (lookup-set_value {eq = eq_by_cmp nat_cmp} laws (is_at (nat_cmp id))
+          (λ x y h. laws.congr id x y h) other new before (is_there (node_at before id) old is));
+      kids = λ other. rw e (omega (
+        arith,
+        sum_by-set_value (as_child other) (is_at (nat_cmp id)) before old new is,
+        ap (one_for other) same,
+      ));
     }
 
 -- ---- a node that goes
@@ -95,18 +87,13 @@ gone_is before after id old rising rises is e =
     let laws = eq_by_cmp_equiv nat_cmp_total in
     record {
       rising = rises;
-      at = λ other. ap (λ (nodes : List (ℕ × NodeValue)). node_at nodes other) e
-          ∙ lookup-remove_entry {eq = eq_by_cmp nat_cmp} laws (is_at (nat_cmp id))
+      at = λ other. rw e (lookup-remove_entry {eq = eq_by_cmp nat_cmp} laws (is_at (nat_cmp id))
           (λ x y h. laws.congr id x y h) other before
-          (IsDistinct-from_sorted nat_cmp (keys_of before) rising);
-      kids = λ other.
-          let was = ap (λ (o : Option NodeValue). unwrap_or (option_map (as_child other) o) 0) is in
-          omega (
-            arith,
-            ap (λ (nodes : List (ℕ × NodeValue)). children_of nodes other) e,
-            sum_by-remove_entry (as_child other) (is_at (nat_cmp id)) before,
-            was,
-          );
+          (IsDistinct-from_sorted nat_cmp (keys_of before) rising));
+      kids = λ other. rw e (omega (
+        arith,
+        rw is at (sum_by-remove_entry (as_child other) (is_at (nat_cmp id)) before),
+      ));
     }
 
 -- what stands there then stood there
@@ -149,7 +136,7 @@ module _ (before mid : List (ℕ × NodeValue)) (id : ℕ) (old : NodeValue)
         → node.parent ≡ Some above → IsSome (node_at mid above)
     parent_stays other above node has parent =
         let differs : id ≢ above =
-        λ same. no_parent other node has (parent ∙ ap (λ (n : ℕ). Some n) (sym same)) in
+        λ same. no_parent other node has cc in
         subst IsSome (sym (gone_still before mid id old above gone differs))
         ((families.each other node has).there above parent)
 
@@ -181,7 +168,7 @@ module _ (before mid : List (ℕ × NodeValue)) (id : ℕ) (old : NodeValue)
       },
       λ other node has dies hole.
           let was = gone_from before mid id old other node gone has in
-          needed other node was.1 dies (λ same. was.0 (ap (λ (o : Option ℕ). unwrap_or o 0) same)),
+          needed other node was.1 dies (λ same. was.0 cc),
     )
 
     module _ (after : List (ℕ × NodeValue)) (above : ℕ) (parent new : NodeValue)
@@ -244,8 +231,7 @@ module _ (before mid : List (ℕ × NodeValue)) (id : ℕ) (old : NodeValue)
               | inl here ↦ absurd (hole (ap (λ (n : ℕ). Some n) here.0))
               | inr apart ↦
                   let was = gone_from before mid id old other node gone apart.1 in
-                  needed other node was.1 dies
-                  (λ same. was.0 (ap (λ (o : Option ℕ). unwrap_or o 0) same))
+                  needed other node was.1 dies (λ same. was.0 cc)
             ],
       )
 
@@ -264,8 +250,7 @@ pub fewer_again : (before mid after : List (ℕ × NodeValue)) → AreFewer befo
     → AreFewer mid after → AreFewer before after
 fewer_again before mid after one two = record {
   left = λ id. one.left id && two.left id;
-  links = two.links ∙ ap (λ (links : List Link). filter (λ (link : Link). two.left link.id) links)
-      one.links ∙ both (links_of before);
+  links = rw (two.links, one.links) (both (links_of before));
   living = two.living ∙ one.living;
 }
   where
@@ -274,10 +259,7 @@ fewer_again before mid after one two = record {
         (filter (λ (link : Link). one.left link.id) links)
         ≡ filter (λ (link : Link). one.left link.id && two.left link.id) links
     both [] = refl
-    both (link ∷ links) = elim (cases_Bool (one.left link.id)) [
-      | inl stays ↦ rw (stays, both links)
-      | inr goes ↦ rw goes (both links)
-    ]
+    both (link ∷ links) = grind (arith, common_steps, both links)
 
 -- one fewer
 pub fewer_gone : (before after : List (ℕ × NodeValue)) (id : ℕ) (old : NodeValue) → Rises before
@@ -298,11 +280,8 @@ fewer_set before after id children old is e =
     let same = fewer_same before in
     record {
       left = same.left;
-      links = ap links_of e ∙ links_set before id old (record old { children = children }) is
-          (λ key. refl) ∙ same.links;
-      living =
-          ap living_ids_of e ∙ living_set before id old
-          (record old { children = children }) is refl;
+      links = rw e (links_set before id old _ is (λ key. refl) ∙ same.links);
+      living = rw e (living_set before id old _ is refl);
     }
 
 -- ---- a child goes
