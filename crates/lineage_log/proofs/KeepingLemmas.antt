@@ -1,8 +1,9 @@
 -- What is kept of all organisms ever, as some come and some die.
-use Rattle.std.proofs.Common.{◌≡◌, ◌↔◌, inl, inr, ◌∙◌, refl, sym, ap, subst, true≢false, ℕ, zero, suc, ◌<◌, Bool, true, cond, List, [], ◌∷◌, ◌++◌, reverse, get_or, Some, None, eq-eqb, ne_eqb, arith}
+use Rattle.std.proofs.Common.{◌≡◌, ◌↔◌, inl, inr, ◌∙◌, refl, ap, subst, ℕ, zero, suc, ◌<◌, Bool, true, cond, List, [], ◌∷◌, ◌++◌, get_or, Some, None, eq-eqb, ne_eqb, arith}
 use Rattle.std.specs.Prelude.{All, Contains, filter, filter_map, option_and_then}
 use Rattle.std.specs.Option.{option_map_or}
-use Rattle.std.proofs.lemmas.Bool.{cases_Bool, cases_eq, cond-true, false_from_ne_true}
+use Rattle.std.proofs.lemmas.Bool.{cases_eq, cond-true}
+use Rattle.std.proofs.lemmas.Grind.{common_steps}
 use Rattle.std.proofs.lemmas.List.{reverse-append}
 use Rattle.std.proofs.lemmas.List.Elements.{filter-append}
 use Rattle.std.proofs.lemmas.List.Folds.{list_any-append}
@@ -72,13 +73,8 @@ module _ (everyone : List Link) (living : List ℕ) (older : AreOlder everyone) 
           (filter (λ (link : Link). is_kept everyone living link.id) links)
           ≡ filter (λ (link : Link). is_kept everyone left link.id) links
       both [] = refl
-      both (link ∷ links) = elim (cases_Bool (is_kept everyone living link.id)) [
-        | inl stays ↦ rw (stays, both links)
-        | inr goes ↦
-            let gone = false_from_ne_true (is_kept everyone left link.id)
-            (λ h. true≢false (sym (still_kept everyone left living link.id fewer h) ∙ goes)) in
-            rw (goes, gone) (both links)
-      ]
+      both (link ∷ links) =
+          grind (arith, common_steps, both links, still_kept everyone left living link.id fewer)
 
   -- the links of an id's ancestors stay
   links_within : (n id : ℕ) → is_kept everyone living id ≡ true
@@ -104,8 +100,7 @@ module _ (everyone : List Link) (living : List ℕ) (older : AreOlder everyone) 
   unfolding line_of_descent
   line_kept id lives =
       let is = kept_living (parent_of everyone) older living id lives in
-      ap (λ ids. reverse (filter_map (link_of (kept_of everyone living)) ids))
-      (ancestors_kept id is) ∙ ap reverse (links_within id id is)
+      rw (ancestors_kept id is, links_within id id is)
 
 -- ---- one more comes
 
@@ -195,14 +190,7 @@ module _ (everyone : List Link) (living : List ℕ) (link : Link) (older : AreOl
       → is_kept more (living ++ link.id ∷ []) id ≡ is_kept everyone living id
   kept_before id low =
       rw (list_any-append (is_in_line more id) living (link.id ∷ []), any_before id living below)
-      (elim (cases_Bool (is_kept everyone living id)) [
-        | inl kept ↦ rw kept
-        | inr gone ↦ rw (
-          gone,
-          false_from_ne_true (is_in_line more id link.id)
-              (λ h. true≢false (sym (in_line id low h) ∙ gone)),
-        )
-      ])
+      (grind (arith, common_steps, in_line id low))
 
   -- the newcomer is kept
   kept_itself : is_kept more (living ++ link.id ∷ []) link.id ≡ true
@@ -248,10 +236,9 @@ kept_same everyone living others same =
     λ i. filter (λ (link : Link). alike link.id i) everyone
   where
     alike : (id : ℕ) → is_kept everyone living id ≡ is_kept everyone others id
-    alike id = elim (cases_Bool (is_kept everyone living id)) [
-      | inl is ↦ is
-          ∙ sym (still_kept everyone living others id (λ one lives. (same one).0 lives) is)
-      | inr not ↦ not ∙ sym (false_from_ne_true (is_kept everyone others id)
-          (λ h. true≢false (sym (still_kept everyone others living id
-          (λ one lives. (same one).1 lives) h) ∙ not)))
-    ]
+    alike id = grind (
+      arith,
+      common_steps,
+      still_kept everyone living others id (λ one lives. (same one).0 lives),
+      still_kept everyone others living id (λ one lives. (same one).1 lives),
+    )

@@ -1,10 +1,9 @@
 -- Who lives among the nodes of a tree, and what is left when a node comes, changes or goes.
-use Rattle.std.proofs.Common.{◌≡◌, inl, inr, ⊎_elim, ◌∙◌, refl, sym, ap, ℕ, zero, suc, ◌<◌, Bool, true, false, cond, not, eqb, List, [], ◌∷◌, ◌++◌, Some, None, nat_cmp, Greater, eq-eqb, ne_eqb, arith}
+use Rattle.std.proofs.Common.{◌≡◌, inl, inr, ⊎_elim, ◌∙◌, refl, sym, ap, ℕ, zero, suc, ◌<◌, Bool, true, false, not, eqb, List, [], ◌∷◌, ◌++◌, Some, None, nat_cmp, Greater, eq-eqb, ne_eqb, arith}
 use Rattle.std.specs.Prelude.{All, Contains, filter}
 use Rattle.std.specs.BTreeMap.{insert_entry, is_at}
 use Rattle.std.specs.Cmp.{nat_cmp_is}
 use Rattle.std.specs.Map.{keys_of, remove_entry, set_value}
-use Rattle.std.specs.Ordering.{match_ordering}
 use Rattle.std.proofs.lemmas.Bool.{cases_Bool, cond-true}
 use Rattle.std.proofs.lemmas.List.{map_push}
 use Rattle.std.proofs.lemmas.List.Elements.{filter-append}
@@ -27,8 +26,7 @@ pub there_lives : (nodes : List (ℕ × NodeValue)) (id : ℕ) (node : NodeValue
 there_lives [] id node is lives = absurd cc
 there_lives (e ∷ es) id node is lives = elim (by_key id e.0) [
   | inl here ↦
-      let same : Some e.1 ≡ Some node = sym (first_node e es id here.1) ∙ is in
-      let first : e.1.lives ≡ true = cc in
+      let first : e.1.lives ≡ true = cc (first_node e es id here.1) in
       rw first (0, omega arith, sym here.0)
   | inr apart ↦
       let rest = there_lives es id node (sym (other_node e es id apart.1) ∙ is) lives in
@@ -75,11 +73,10 @@ pub insert_last : (nodes : List (ℕ × NodeValue)) (id : ℕ) (node : NodeValue
     → insert_entry nat_cmp nodes id node ≡ nodes ++ (id, node) ∷ []
 insert_last [] id node newest = refl
 insert_last (e ∷ es) id node newest =
-    ap (λ r. match_ordering r ((id, node) ∷ e ∷ es) ((e.0, node) ∷ es)
-    (e ∷ insert_entry nat_cmp es id node))
-    (sym (nat_cmp_is id e.0 Greater (newest 0 (node_link e.0 e.1) (omega arith))))
-    ∙ ap (λ rest. e ∷ rest) (insert_last es id node
-    (λ k d low. newest (suc k) d (omega (arith, low))))
+    rw (
+      sym (nat_cmp_is id e.0 Greater (newest 0 (node_link e.0 e.1) (omega arith))),
+      insert_last es id node (λ k d low. newest (suc k) d (omega (arith, low))),
+    )
 
 -- each id is below it
 pub newest_above : (nodes : List (ℕ × NodeValue)) (id other : ℕ) (node : NodeValue)
@@ -124,25 +121,12 @@ pub links_set : (nodes : List (ℕ × NodeValue)) (id : ℕ) (old new : NodeValu
 links_set [] id old new is same = refl
 links_set (e ∷ es) id old new is same = elim (by_key id e.0) [
   | inl here ↦
-      let was : Some e.1 ≡ Some old = sym (first_node e es id here.1) ∙ is in
-      let first : e.1 ≡ old = cc in
+      let first : e.1 ≡ old = cc (first_node e es id here.1) in
       rw here.1 (ap (λ (link : Link). link ∷ links_of es)
       (same e.0 ∙ ap (node_link e.0) (sym first)))
-  | inr apart ↦ rw apart.1 (ap (λ (links : List Link). node_link e.0 e.1 ∷ links)
-      (links_set es id old new (sym (other_node e es id apart.1) ∙ is) same))
+  | inr apart ↦ rw
+      (apart.1, links_set es id old new (sym (other_node e es id apart.1) ∙ is) same)
 ]
-
--- one more that lives or not
-abbrev live_more : ℕ → Bool → List ℕ → List ℕ
-live_more id lives others = cond lives (id ∷ others) others
-
--- the living of a first node and of the others
-living_first : (e : ℕ × NodeValue) (es : List (ℕ × NodeValue))
-    → living_ids_of (e ∷ es) ≡ live_more e.0 e.1.lives (living_ids_of es)
-living_first e es = elim e.1.lives as
-    (λ b. keys_of (cond b (e ∷ filter (λ (e : ℕ × NodeValue). e.1.lives) es)
-    (filter (λ (e : ℕ × NodeValue). e.1.lives) es)) ≡ live_more e.0 b (living_ids_of es))
-    [ true ↦ refl | false ↦ refl ]
 
 -- who lives stays where it lives as before
 pub living_set : (nodes : List (ℕ × NodeValue)) (id : ℕ) (old new : NodeValue)
@@ -151,14 +135,17 @@ pub living_set : (nodes : List (ℕ × NodeValue)) (id : ℕ) (old new : NodeVal
 living_set [] id old new is same = refl
 living_set (e ∷ es) id old new is same = elim (by_key id e.0) [
   | inl here ↦
-      let was : Some e.1 ≡ Some old = sym (first_node e es id here.1) ∙ is in
-      let lives : new.lives ≡ e.1.lives = cc in
-      rw here.1 (living_first (e.0, new) es ∙ ap (λ b. live_more e.0 b (living_ids_of es)) lives
-      ∙ sym (living_first e es))
-  | inr apart ↦ rw apart.1 (living_first e (set_value (is_at (nat_cmp id)) es new)
-      ∙ ap (live_more e.0 e.1.lives)
-      (living_set es id old new (sym (other_node e es id apart.1) ∙ is) same)
-      ∙ sym (living_first e es))
+      let lives : new.lives ≡ e.1.lives = cc (first_node e es id here.1) in
+      rw here.1 (elim (cases_Bool e.1.lives) [
+        | inl living ↦ rw (living, lives ∙ living)
+        | inr dying ↦ rw (dying, lives ∙ dying)
+      ])
+  | inr apart ↦
+      let rest = living_set es id old new (sym (other_node e es id apart.1) ∙ is) same in
+      rw apart.1 (elim (cases_Bool e.1.lives) [
+        | inl living ↦ rw (living, rest)
+        | inr dying ↦ rw (dying, rest)
+      ])
 ]
 
 -- an id that is no node's isn't left out
@@ -205,13 +192,13 @@ pub living_gone : (nodes : List (ℕ × NodeValue)) (id : ℕ) (old : NodeValue)
 living_gone [] id old is dead = refl
 living_gone (e ∷ es) id old is dead = elim (by_key id e.0) [
   | inl here ↦
-      let was : Some e.1 ≡ Some old = sym (first_node e es id here.1) ∙ is in
-      let first : e.1.lives ≡ false = cc in
-      rw (here.1, first)
-  | inr apart ↦ rw apart.1 (living_first e (remove_entry (is_at (nat_cmp id)) es)
-      ∙ ap (live_more e.0 e.1.lives)
-      (living_gone es id old (sym (other_node e es id apart.1) ∙ is) dead)
-      ∙ sym (living_first e es))
+      let first : e.1.lives ≡ false = cc (first_node e es id here.1) in rw (here.1, first)
+  | inr apart ↦
+      let rest = living_gone es id old (sym (other_node e es id apart.1) ∙ is) dead in
+      rw apart.1 (elim (cases_Bool e.1.lives) [
+        | inl living ↦ rw (living, rest)
+        | inr dying ↦ rw (dying, rest)
+      ])
 ]
 
 -- an id that is no node's leaves out no link
@@ -234,7 +221,9 @@ links_gone [] id rising = refl
 links_gone (e ∷ es) id rising = elim (by_key id e.0) [
   | inl here ↦ rw (here.1, eq-eqb e.0 id (sym here.0))
       (sym (links_none es id (none_behind e es id rising here.1)))
-  | inr apart ↦ rw (apart.1, ne_eqb e.0 id (λ same. apart.0 (sym same)))
-      (ap (λ (links : List Link). node_link e.0 e.1 ∷ links)
-      (links_gone es id (sorted_tail nat_cmp e.0 (keys_of es) rising)))
+  | inr apart ↦ rw (
+    apart.1,
+    ne_eqb e.0 id (λ same. apart.0 (sym same)),
+    links_gone es id (sorted_tail nat_cmp e.0 (keys_of es) rising),
+  )
 ]
