@@ -1,5 +1,5 @@
 -- Who stands in the cells stands there alone, is kept, and is none of those who died.
-use Rattle.std.proofs.Common.{◌≡◌, ℕ, zero, suc, ◌<◌, List, [], ◌∷◌, ◌++◌, Option, Some, None, length, refl, sym, ap, subst, ◌∙◌, arith, inl, inr}
+use Rattle.std.proofs.Common.{◌≡◌, ℕ, zero, suc, ◌<◌, List, [], ◌∷◌, ◌++◌, Option, Some, None, length, refl, sym, ap, ◌∙◌, arith, inl, inr}
 use Rattle.std.specs.Prelude.{◌≢◌, ◌⊎◌, replicate, slice_get, slice_set}
 use Rattle.std.specs.List.{AllByRecursion}
 use Rattle.std.specs.Option.{option_to_list}
@@ -26,11 +26,9 @@ get_written (y ∷ ys) (suc i) (suc j) slot x is = elim (get_written ys i j slot
 -- a write leaves all other places as they are
 pub get_other : {A : Type 0} (xs : List A) (i j : ℕ) (x : A) → j ≢ i
     → slice_get (slice_set xs i x) j ≡ slice_get xs j
-get_other [] i j x other = refl
 get_other (y ∷ ys) zero zero x other = absurd (other refl)
-get_other (y ∷ ys) zero (suc j) x other = refl
-get_other (y ∷ ys) (suc i) zero x other = refl
 get_other (y ∷ ys) (suc i) (suc j) x other = get_other ys i j x (λ e. other (ap suc e))
+get_other _ _ _ x other = refl
 
 -- a list with one item more has at a place what it had there, or at its end that item
 pub get_pushed : {A : Type 0} (xs : List A) (y z : A) (i : ℕ) → slice_get (xs ++ y ∷ []) i ≡ Some z
@@ -61,9 +59,8 @@ empty cells = replicate cells None
 
 -- nobody stands in any of them
 pub none_there : (cells cell id : ℕ) → slice_get (empty cells) cell ≡ Some (Some id) → ⊥
-none_there zero cell id is = absurd cc
-none_there (suc cells) zero id is = absurd cc
 none_there (suc cells) (suc cell) id is = none_there cells cell id is
+none_there _ _ id is = absurd cc
 
 -- what holds of each id and of one more holds of all with that one at the end
 all_pushed : (P : ℕ → Type 0) (xs : List ℕ) (y : ℕ) → AllByRecursion P xs → P y
@@ -151,8 +148,7 @@ module _ (standing : List (Option ℕ)) (people : People) (leaving : List ℕ)
     staying = λ c i is.
         let left = left_standing cell c i is in
         all_pushed (λ d. d ≢ i) leaving id (tidy.staying c i left.1)
-        (λ same. left.0 (tidy.once cell c i
-        (subst (λ (n : ℕ). slice_get standing cell ≡ Some (Some n)) same stood) left.1));
+        (λ same. left.0 (tidy.once cell c i (rw same at stood) left.1));
     once = λ a b i at_a at_b. tidy.once a b i (left_standing cell a i at_a).1
         (left_standing cell b i at_b).1;
     gone = all_pushed (λ d. d < length people) leaving id tidy.gone
@@ -180,11 +176,7 @@ module _ (standing : List (Option ℕ)) (people : People) (leaving : List ℕ)
       → slice_get (new_standing cell) c ≡ Some (Some i) → (letters : List Letter)
       × (slice_get (new_people genome) i ≡ Some (Some letters))
   new_present cell genome c i is = elim (stands_now cell c i is) [
-    | inl here ↦ (
-      genome,
-      subst (λ (n : ℕ). slice_get (new_people genome) n ≡ Some (Some genome))
-          here.1 (get_last people (Some genome)),
-    )
+    | inl here ↦ (genome, rw (← here.1) (get_last people (Some genome)))
     | inr there ↦ let found = tidy.present c i there.1 in
         (found.0, get_before people (Some genome ∷ []) (Some found.0) i found.1)
   ]
@@ -197,12 +189,10 @@ module _ (standing : List (Option ℕ)) (people : People) (leaving : List ℕ)
     | inl here ↦ all_with (λ d. d ≢ i) leaving over
         (all_else (λ d. d < length people) (λ d. d ≢ i)
         (λ d below same. absurd (omega (arith, here.1))) leaving tidy.gone)
-        (λ d o same. let below =
-        below_next people d (tidy.present cell d (stood ∙ ap (λ (s : Option ℕ). Some s) o)) in
+        (λ d o same. let below = below_next people d (tidy.present cell d (cc)) in
         absurd (omega (arith, here.1)))
     | inr there ↦ all_with (λ d. d ≢ i) leaving over (tidy.staying c i there.1)
-        (λ d o same. there.0 (tidy.once cell c i
-        (stood ∙ ap (λ (s : Option ℕ). Some s) (o ∙ ap (λ (n : ℕ). Some n) same)) there.1))
+        (λ d o same. there.0 (tidy.once cell c i (cc) there.1))
   ]
 
   -- who stands after somebody came stands in one cell
@@ -234,8 +224,7 @@ module _ (standing : List (Option ℕ)) (people : People) (leaving : List ℕ)
         all_with (λ d. d < length (new_people genome)) leaving over
         (all_else (λ d. d < length people) (λ d. d < length (new_people genome))
         (λ d below. omega (arith, more)) leaving tidy.gone)
-        (λ d o. let below = below_next people d
-        (tidy.present cell d (stood ∙ ap (λ (s : Option ℕ). Some s) o)) in omega (arith, more));
+        (λ d o. let below = below_next people d (tidy.present cell d (cc)) in omega (arith, more));
   }
 
   -- the cells are tidy still once those who died are left out of the people
