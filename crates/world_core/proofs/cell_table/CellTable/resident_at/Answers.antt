@@ -1,6 +1,5 @@
-use Rattle.std.proofs.Common.{refl, Option, Some, None, get_or, subst, sym}
+use Rattle.std.proofs.Common.{refl, get_or}
 use Rattle.saved_lines.specs.declared.resident.Resident.{Resident}
-use Rattle.world_rules.specs.World.{Occupant}
 use Rattle.world_core.specs.Resumed.{IsResidentIn}
 use Rattle.world_core.proofs.CellTableLemmas.{read-id, read-slot, resident_is}
 use Rattle.world_core.proofs.cell_table.CellTable.resident_at.Goals as goal
@@ -18,12 +17,12 @@ returns-in_ok-image-in-Some c =
       id = c.index-in-Some.result.now;
       image = c.in_ok-image-in-Some.field-0;
     } in
-    subst (λ (slot : Option Occupant). IsResidentIn cell slot (Some resident)) (sym slot)
+    rw (slot, IsResidentIn)
     (resident_is cell id c.in-Some.organism resident refl named
     c.in_ok-image-in-Some.ensures.organism c.in_ok-image-in-Some.ensures.cpu)
 
 pub returns-in-None : goal.returns-in-None
 returns-in-None c =
-    subst (λ (slot : Option Occupant). IsResidentIn c.args.cell slot None)
-    (sym (read-slot c.self.inside c.args.cell c.requires c.self.invariant c.self.view_is
-    c.index.result.now _ c.index.ensures c.in-None.is)) tt
+    let slot = read-slot c.self.inside c.args.cell c.requires c.self.invariant c.self.view_is
+    c.index.result.now _ c.index.ensures c.in-None.is in
+    rw (slot, IsResidentIn) tt

@@ -1,6 +1,6 @@
 use Rattle.std.proofs.Common.{◌≡◌, ◌∙◌, ap, sym, get_or, None, Some, length, ◌<◌}
-use Rattle.std.specs.Prelude.{option_map, slice_get}
-use Rattle.world_core.specs.Population.{PopulationValue, occupant_genome}
+use Rattle.std.specs.Prelude.{slice_get}
+use Rattle.world_core.specs.Population.{PopulationValue}
 use Rattle.world_core.proofs.CellTableLemmas.{nobody, somebody}
 use Rattle.world_core.proofs.KeptOfLemmas.{key-is, key-read}
 use Rattle.world_core.proofs.population.Population.number_at.Goals as goal
@@ -20,13 +20,9 @@ returns-in-Some c =
     let key = key-read cells bank keys c.self.inside.census c.args.cell c.index.result.now
     c.self.invariant within c.index.ensures in
     let number : slice_get c.args.self.now.bank c.index.result.now ≡ Some who.0.organism.genome =
-    ap (slice_get c.args.self.now.bank) key
-    ∙ ap (λ bank. slice_get bank (get_or keys c.args.cell 0)) (sym interned)
-    ∙ key-is cells bank keys c.self.inside.census c.args.cell who.0 within who.1
-    c.self.invariant in
-    ap Some number ∙ sym (ap
-    (λ cells. option_map (λ genome. Some genome) (occupant_genome (get_or cells c.args.cell None)))
-    (sym were) ∙ ap (λ slot. option_map (λ genome. Some genome) (occupant_genome slot)) who.1)
+    rw (← interned, key) (key-is cells bank keys c.self.inside.census c.args.cell who.0 within who.1
+    c.self.invariant) in
+    rw (← were, who.1) (ap Some number)
 
 pub returns-in-None : goal.returns-in-None
 returns-in-None c =
@@ -35,6 +31,4 @@ returns-in-None c =
     ap (λ (p : PopulationValue). p.cells) c.self.view_is in
     let empty = nobody (get_or cells c.args.cell None)
     (sym c.standing_at.ensures ∙ c.in-None.is) in
-    sym (ap (λ cells. option_map (λ genome. Some genome)
-    (occupant_genome (get_or cells c.args.cell None))) (sym were)
-    ∙ ap (λ slot. option_map (λ genome. Some genome) (occupant_genome slot)) empty)
+    rw (← were, empty)
