@@ -1,6 +1,6 @@
 -- The values of a configuration are within the bounds of their keys.
-use Rattle.std.proofs.Common.{◌≡◌, ◌-◌, ◌*◌, ◌≤◌, true, List, [], ◌∷◌, length, arith}
-use Rattle.std.specs.Prelude.{◌&&◌, nat_le}
+use Rattle.std.proofs.Common.{◌≡◌, ◌-◌, ◌*◌, ◌≤◌, true, List, [], ◌∷◌, arith}
+use Rattle.std.specs.Prelude.{nat_le}
 use Rattle.std.specs.List.{AllByRecursion}
 use Rattle.std.proofs.Math.Nat.{mul-le-mul}
 use Rattle.std.proofs.lemmas.Bool.{and_parts, leb-true}
@@ -22,17 +22,12 @@ frame config =
 what_within : (config : ConfigValues) → 1 ≤ size_of config → (what : WhatValue)
     → what_fits (frame config) what ≡ true → FitsWhat config what
 what_within config some (inject cell letters) h =
-    let first = and_parts (nat_le cell (size_of config - 1))
-    (nat_le config.rules.least (length letters)
-    && nat_le (length letters) config.rules.greatest) h in
-    let lengths = and_parts (nat_le config.rules.least (length letters))
-    (nat_le (length letters) config.rules.greatest) first.1 in
-    let low : cell ≤ size_of config - 1 = leb-true cell (size_of config - 1) first.0 in
+    let first = and_parts _ _ h in
+    let lengths = and_parts _ _ first.1 in
+    let low : cell ≤ size_of config - 1 = leb-true _ _ first.0 in
     (omega arith, leb-true _ _ lengths.0, leb-true _ _ lengths.1)
 what_within config some (clear first last) h =
-    let low : last ≤ size_of config - 1 =
-    leb-true last (size_of config - 1)
-    (and_parts (nat_le first last) (nat_le last (size_of config - 1)) h).1 in
+    let low : last ≤ size_of config - 1 = leb-true _ _ (and_parts (nat_le first last) _ h).1 in
     omega arith
 what_within config some (rate name ppm) h = leb-true _ _ h
 

@@ -69,8 +69,7 @@ module _ (laws : LifeLaws) (config : ConfigValues) (fit : IsConfig config) (w : 
       (sound_kept config (slice_at config w.cells) 0 w.cells (lives_after config w) sound_lives)
 
   -- the lives leave each its id
-  own_begun : HaveOwnIds w.cells (length w.everyone)
-      → HaveOwnIds begun.cells (length w.everyone)
+  own_begun : HaveOwnIds w.cells (length w.everyone) → HaveOwnIds begun.cells (length w.everyone)
   own_begun ids =
       let was = was_there config (slice_at config w.cells) 0 w.cells (lives_after config w)
       sound_lives in

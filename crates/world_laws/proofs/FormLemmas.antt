@@ -45,8 +45,7 @@ organisms_few (None ∷ cells) = omega (arith, organisms_few cells)
 organisms_few (Some o ∷ cells) = omega (arith, organisms_few cells)
 
 -- there are no more different genomes than genomes
-genotypes_of_few : (genomes : List (List Letter))
-    → length (different_of genomes) ≤ length genomes
+genotypes_of_few : (genomes : List (List Letter)) → length (different_of genomes) ≤ length genomes
 genotypes_of_few [] = omega arith
 genotypes_of_few (genome ∷ genomes) =
     omega (
@@ -65,11 +64,7 @@ merits_sum (Some o ∷ cells) sound =
     let all : sum_by (λ (o : OrganismState). o.merit) (organisms_in (Some o ∷ cells))
     ≡ o.organism.merit + sum_by (λ (o : OrganismState). o.merit) (organisms_in cells) =
     sum_by-cons (λ (o : OrganismState). o.merit) o.organism (organisms_in cells) in
-    omega (
-      arith,
-      (sound 0 o refl).merit,
-      merits_sum cells (λ cell o h. sound (suc cell) o h),
-    )
+    omega (arith, (sound 0 o refl).merit, merits_sum cells (λ cell o h. sound (suc cell) o h))
 
 -- how many of at most 65536 organisms have a task credited fits its field, task by task
 tasks_form : (cells : List (Option Occupant)) (tasks : List Task)
@@ -118,10 +113,7 @@ count_form scene births sound small early few gone =
             (omega arith, gone),
             (
               (omega arith, omega (arith, genotypes)),
-              (
-                (omega arith, merit),
-                tasks_form cells all_tasks (omega (arith, organisms, small)),
-              ),
+              ((omega arith, merit), tasks_form cells all_tasks (omega (arith, organisms, small))),
             ),
           ),
         ),

@@ -70,20 +70,6 @@ Passes start stage births scene lines later more next =
     Tells (Within (mirror start stage births scene)) (seen_in scene.cells scene.everyone) lines
     (Within (mirror start later more next)) (seen_in next.cells next.everyone)
 
--- the answer of lines that lead to this place
-abbrev taken : LogPlace → Result LogPlace Reason
-taken p = Ok p
-
--- equal answers are of equal places
-pub place_is : (p q : LogPlace) → taken p ≡ taken q → p ≡ q
-place_is p q e = cc
-
--- with no more lines an answer is what it was
-told_one : (r : Result LogPlace Reason) (q : LogPlace) → r ≡ Ok q
-    → and_on r (λ next. told_all next []) ≡ Ok q
-told_one (Ok p) q e = e
-told_one (Err reason) q e = e
-
 -- where one way on from an answer leads to q, another gives k if it does from each such place
 and_then : (r : Result LogPlace Reason) (f g : LogPlace → Result LogPlace Reason) (q : LogPlace)
     (k : Result LogPlace Reason) → ((p : LogPlace) → f p ≡ Ok q → g p ≡ k) → and_on r f ≡ Ok q
@@ -94,7 +80,7 @@ and_then (Err reason) f g q k h e = absurd cc
 -- once lines lead to a place, they and others are told as the others from there
 told_more : (p : LogPlace) (xs ys : List Line) (q : LogPlace) → told_all p xs ≡ Ok q
     → told_all p (xs ++ ys) ≡ told_all q ys
-told_more p [] ys q e = ap (λ x. told_all x ys) (place_is p q e)
+told_more p [] ys q e = let same : p ≡ q = cc in rw same refl
 told_more p (x ∷ xs) ys q e =
     and_then (told p x) (λ next. told_all next xs) (λ next. told_all next (xs ++ ys)) q
     (told_all q ys) (λ next h. told_more next xs ys q h) e
@@ -112,7 +98,7 @@ no_lines p s = record { told = refl; seen = refl }
 pub one_line : (p : LogPlace) (s : Seen) (line : Line) (q : LogPlace) (t : Seen)
     → told p line ≡ Ok q
     → seen_on s line ≡ t → Tells p s (line ∷ []) q t
-one_line p s line q t e f = record { told = told_one (told p line) q e; seen = f }
+one_line p s line q t e f = record { told = rw e refl; seen = f }
 
 -- lines, and others from where they ended, take them on together
 pub more_lines : {p q o : LogPlace} {s t v : Seen} (xs ys : List Line) → Tells p s xs q t

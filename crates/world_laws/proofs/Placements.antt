@@ -24,9 +24,8 @@ in_row width height column row c r =
 -- a cell's row
 row_in : (width height cell : ℕ) → 1 ≤ width → cell < width * height → cell / width < height
 row_in width height cell some h =
-    let wide : 0 < width = omega (arith, some) in
-    let turned : cell < height * width = omega (arith, h) in
-    (div-lt_iff_lt-mul {k = width} {x = cell} {y = height} wide).1 turned
+    (div-lt_iff_lt-mul {k = width} {x = cell} {y = height} (omega (arith, some))).1
+    (omega (arith, h))
 
 -- a torus with a cell has a column
 wide : (width height cell : ℕ) → cell < width * height → 1 ≤ width

@@ -183,11 +183,7 @@ all_births size start stage births config scene (turn ∷ turns) is lawful may =
     let e : births + 1 + length turns ≡ births + length (turn ∷ turns) = omega arith in
     let all = more_lines (birth_line scene turn ∷ [])
     (scan (with_newborn config) birth_line next turns) first rest.passes in
-    record {
-      later = rest.later;
-      may = rest.may;
-      passes = rw (← e) all;
-    }
+    record { later = rest.later; may = rest.may; passes = rw (← e) all }
 
 -- an injected organism's cell is in the world
 abbrev pub IsWhat : ℕ → WhatValue → Type 0

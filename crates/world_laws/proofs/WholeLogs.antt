@@ -101,8 +101,7 @@ module _ (laws : LifeLaws) (config : ConfigValues) (fit : IsConfig config) where
   -- the genome of who stands in the founder's world is kept at its id
   founder_known : Known (Some config.ancestor ∷ []) (first_world config).cells
   unfolding first_world
-  founder_known cell o h =
-      rw (← (only_founder config cell o h).1, founder_genome config) refl
+  founder_known cell o h = rw (← (only_founder config cell o h).1, founder_genome config) refl
 
   -- the founder's world
   run_first : IsRun config 0 (Some config.ancestor ∷ []) (first_world config)
