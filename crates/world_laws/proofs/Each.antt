@@ -15,8 +15,9 @@ use Rattle.world_rules.specs.Scene.{Scene, with_death, with_deaths, with_newcome
 use Rattle.world_rules.specs.Update.{Delivery, births_by, births_in, delivery_of}
 use Rattle.world_rules.specs.World.{Occupant}
 use Rattle.world_laws.proofs.AfterLives.{left_by}
+use Rattle.world_laws.proofs.ListLemmas.{get_emptied}
 use Rattle.world_laws.proofs.Placements.{all_append}
-use Rattle.world_laws.proofs.Scenes.{Each, Stands, stands_before, stands_with}
+use Rattle.world_laws.proofs.Scenes.{Each, Stands, stands_with}
 
 -- ---- who stands once some have died
 
@@ -28,7 +29,7 @@ unfolding with_death
 stood_before scene [] cell o h = (h, tt)
 stood_before scene (at ∷ ats) cell o h =
     let later = stood_before (with_death scene at) ats cell o h in
-    let first = stands_before scene.cells cell at o later.0 in
+    let first = get_emptied scene.cells cell at o later.0 in
     (first.0, (first.1, later.1))
 
 -- a place of a range that is none of those that pass a test fails it

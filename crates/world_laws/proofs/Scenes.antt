@@ -57,11 +57,6 @@ pub record IsScene (size : ℕ) (start : People) (scene : Scene) : Type 0 where
   pub below : Below scene.gone (length scene.everyone)
   pub agree : Agree start scene.everyone
 
--- where somebody stands once a cell is empty
-pub stands_before : (cells : List (Option Occupant)) (cell at : ℕ) (o : Occupant)
-    → Stands (slice_set cells at None) cell o → Stands cells cell o × (cell ≢ at)
-stands_before = get_emptied
-
 -- where somebody stands once somebody new does
 pub stands_with : (cells : List (Option Occupant)) (cell at : ℕ) (new o : Occupant)
     → Stands (slice_set cells at (Some new)) cell o → ((cell ≡ at) × (new ≡ o))
@@ -78,7 +73,7 @@ stands_with cells cell at new o h = elim (cases_eq cell at) [
 -- where genomes are at the ids of who stands, so they are once a cell is empty
 known_empty : (genomes : People) (cells : List (Option Occupant)) (at : ℕ) → Known genomes cells
     → Known genomes (slice_set cells at None)
-known_empty genomes cells at known cell o h = known cell o (stands_before cells cell at o h).0
+known_empty genomes cells at known cell o h = known cell o (get_emptied cells cell at o h).0
 
 -- so they are once somebody comes whose genome is the next one
 known_new : (genomes : People) (cells : List (Option Occupant)) (at : ℕ) (new : Occupant)
@@ -184,9 +179,9 @@ module _ (size : ℕ) (start : People) (scene : Scene) (is : IsScene size start 
     known = known_empty (people_in start scene.everyone) scene.cells at is.known;
     kept = known_empty (map written scene.everyone) scene.cells at is.kept;
     apart = λ cell other o x h k e. is.apart cell other o x
-        (stands_before scene.cells cell at o h).0 (stands_before scene.cells other at x k).0 e;
+        (get_emptied scene.cells cell at o h).0 (get_emptied scene.cells other at x k).0 e;
     gone = λ cell place o h g.
-        let stood = stands_before scene.cells cell at o h in
+        let stood = get_emptied scene.cells cell at o h in
         elim (gone_more scene.gone (standing_at scene at) place o.id g) [
           | inl before ↦ is.gone cell place o stood.0 before
           | inr last ↦

@@ -18,7 +18,8 @@ use Rattle.world_rules.specs.Scene.{Scene, next_id, standing_at, with_death, wit
 use Rattle.world_rules.specs.Update.{Delivery, child_of_birth, birth_link, with_newborn, after_what, after_event}
 use Rattle.world_laws.specs.LowerLaws.{LifeLaws}
 use Rattle.world_laws.specs.Ranges.{HaveOwnIds}
-use Rattle.world_laws.proofs.Scenes.{apart_new, Each, stands_before, stands_with}
+use Rattle.world_laws.proofs.ListLemmas.{get_emptied}
+use Rattle.world_laws.proofs.Scenes.{apart_new, Each, stands_with}
 use Rattle.world_laws.proofs.AfterLives.{IsBorn}
 use Rattle.world_laws.specs.Bounds.{IsConfig, FitsWhat}
 use Rattle.world_laws.proofs.Configs.{few_cells, FitsPlaced, genome_fits}
@@ -65,8 +66,7 @@ goes_on {a} {b} {c} {m} {n} {k} {l} first second come gone = record {
 
 -- what holds of so many newcomers and deaths at most holds of more
 pub goes_more : {a b : Scene} {m n k l : ℕ} → Goes a b m k → m ≤ n → k ≤ l → Goes a b n l
-goes_more {a} {b} goes h i =
-    goes_on goes (goes_nowhere b 0 0) (omega (arith, h)) (omega (arith, i))
+goes_more {a} {b} goes h i = goes_on goes (goes_nowhere b 0 0) (omega (arith, h)) (omega (arith, i))
 
 -- with one more dead, or none, the list is at most one longer
 gone_one : (gone : List ℕ) (slot : Option ℕ)
@@ -78,11 +78,11 @@ gone_one gone (Some id) = omega (arith, length-append gone (id ∷ []))
 goes_death : (scene : Scene) (cell : ℕ) → Goes scene (with_death scene cell) 0 1
 unfolding with_death
 goes_death scene at = record {
-  sound = λ s cell o h. s cell o (stands_before scene.cells cell at o h).0;
+  sound = λ s cell o h. s cell o (get_emptied scene.cells cell at o h).0;
   own = λ ids. record {
-    given = λ cell o h. ids.given cell o (stands_before scene.cells cell at o h).0;
+    given = λ cell o h. ids.given cell o (get_emptied scene.cells cell at o h).0;
     apart = λ cell other o x h k e. ids.apart cell other o x
-        (stands_before scene.cells cell at o h).0 (stands_before scene.cells other at x k).0 e;
+        (get_emptied scene.cells cell at o h).0 (get_emptied scene.cells other at x k).0 e;
   };
   sized = length-set scene.cells at None;
   grown = omega arith;

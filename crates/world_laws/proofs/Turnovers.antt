@@ -22,9 +22,9 @@ use Rattle.world_rules.specs.Update.{Delivery, after_births, after_burials, afte
 use Rattle.world_rules.specs.WorldRun.{world_after}
 use Rattle.world_laws.specs.Turnover.{HasBeen, HasGone, IsStanding, IsTurnover}
 use Rattle.world_laws.specs.LowerLaws.{LifeLaws}
-use Rattle.world_laws.proofs.ListLemmas.{get_written, get_last, get_more, get_seam}
+use Rattle.world_laws.proofs.ListLemmas.{get_emptied, get_written, get_last, get_more, get_seam}
 use Rattle.world_laws.proofs.Mirror.{People}
-use Rattle.world_laws.proofs.Scenes.{IsScene, Stands, gone_more, scene_death, scene_newcomer, stands_before, stands_with, who_stands}
+use Rattle.world_laws.proofs.Scenes.{IsScene, Stands, gone_more, scene_death, scene_newcomer, stands_with, who_stands}
 use Rattle.world_laws.proofs.UpdateLines.{IsEvent, IsTurn, IsWhat, scene_birth, scene_births, scene_deaths, scene_what}
 use Rattle.world_laws.proofs.AfterLives.{folk_kept, left_by}
 use Rattle.world_laws.specs.Bounds.{IsConfig, size_of}
@@ -129,7 +129,7 @@ module _ (cells : List (Option Occupant)) (before : List Link) (size : ℕ) (sta
         standing = λ id stands. t.standing id (
           stands.0,
           stands.1,
-          (stands_before scene.cells stands.0 at stands.1 stands.2).0,
+          (get_emptied scene.cells stands.0 at stands.1 stands.2).0,
           stands.3,
         );
         gone = λ id there. elim (gone_from scene.gone (standing_at scene at) id there) [
