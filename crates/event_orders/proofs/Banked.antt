@@ -106,8 +106,7 @@ module _ (config : ConfigValues) where
       let born = born_in config w in
       let ever : genomes_ever (with_update config s seat).world.everyone ≡ genomes_ever w.everyone
       ++ (born ++ added) = ever_gathered s may are in
-      let more : genomes_of (s.history ++ map (genome_entry seat) added) ≡ known ++ added
-      =
+      let more : genomes_of (s.history ++ map (genome_entry seat) added) ≡ known ++ added =
       filter_map-append (λ (one : Entry). interned_genome one.call) s.history
       (map (genome_entry seat) added) ∙ ap (λ l. known ++ l)
       (genomes-interned seat added) in (

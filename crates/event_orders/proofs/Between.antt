@@ -9,7 +9,7 @@ use Rattle.genotype_bank.specs.BankHistory.{genomes_of, genotypes_of, HasEachOnc
 use Rattle.instruction_set.specs.declared.letter.Letter.{Letter}
 use Rattle.world_config.specs.Values.{ConfigValues}
 use Rattle.world_rules.specs.World.{World, first_world}
-use Rattle.world_rules.specs.Lives.{CellLife, lives_of}
+use Rattle.world_rules.specs.Lives.{lives_of}
 use Rattle.world_rules.specs.Update.{scene_of_lives, world_of, next_scene, next_world}
 use Rattle.world_rules.specs.WorldRun.{world_after}
 use Rattle.event_orders.specs.declared.schedule.ScheduleEvent.{ScheduleEvent}
@@ -76,9 +76,8 @@ module _ (config : ConfigValues) where
       → HoldsAt config (n + 1) (with_update config s seat)
   gather_kept n s seat may h = record {
     world =
-        ap (λ (lives : List CellLife). world_of (scene_of_lives config s.world lives))
-        (results_are_lives config s h.results may.every_cell) ∙ next_is s.world
-        ∙ ap (next_world config) h.world ∙ world_next n;
+        rw (results_are_lives config s h.results may.every_cell, next_is s.world, h.world)
+        (world_next n);
     results = λ cell e. absurd (true≢false (sym e));
     bank = record {
       old = λ g. (gather_members config s seat may h.results h.bank g).1;
@@ -169,14 +168,9 @@ module _ (config : ConfigValues) (events : List ScheduleEvent) where
   holds_after lawful (suc n) l =
       let within : n < length events = omega arith in
       let e = get_or events n Publish in
-      let at : slice_get events n ≡ Some (get_or events n Publish) =
-      slice_get-get_or events n Publish within in
-      let h : HoldsAt config (counted config (gathers n) e)
-      (state_after_event config (at_place n) e)
-      =
-      kept config (gathers n) (at_place n) e (lawful n e at)
-      (holds_after lawful n (omega arith)) in
-      rw (← add-one n, gathers_with n e at, state_with n e at) h
+      let at = slice_get-get_or events n Publish within in
+      rw (← add-one n, gathers_with n e at, state_with n e at) (kept config (gathers n) (at_place n) e
+      (lawful n e at) (holds_after lawful n (omega arith)))
 
   -- at every moment of a schedule the world is the definition's
   pub world_at : IsSchedule config events → (n : ℕ) → n ≤ length events
@@ -192,14 +186,11 @@ module _ (config : ConfigValues) (events : List ScheduleEvent) where
   genotypes_at each lawful n seat at =
       let l : n < length events = slice_get_within events n (Gather seat) at in
       let before = holds_after lawful n (omega arith) in
-      let same : at_place (n + 1) ≡ with_update config (at_place n) seat =
-      state_with n (Gather seat) at in
+      let same = state_with n (Gather seat) at in
       let world = world_at lawful (n + 1) (omega arith) in
       let all = each (genomes_of (at_place (n + 1)).history) in
-      let members : (g : List Letter) → Contains
-      (genomes_of (at_place (n + 1)).history) g ↔ Contains
-      (genomes_ever (world_after config (gathers (n + 1))).everyone) g
-      =
+      let members : (g : List Letter) → Contains (genomes_of (at_place (n + 1)).history) g
+      ↔ Contains (genomes_ever (world_after config (gathers (n + 1))).everyone) g =
       λ g. rw (← world, same) (gather_members config (at_place n) seat
       (lawful n (Gather seat) at) before.results before.bank g) in
       record {

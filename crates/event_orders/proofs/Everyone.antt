@@ -1,5 +1,5 @@
 -- The genomes of all organisms that were ever in a world, through an update.
-use Rattle.std.proofs.Common.{◌≡◌, ◌∙◌, refl, sym, subst, ap, ℕ, zero, suc, ◌+◌, List, [], ◌∷◌, ◌++◌, length, map, fold, Option, None, Some, arith, append_assoc, append-nil, add-one}
+use Rattle.std.proofs.Common.{◌≡◌, ◌∙◌, refl, sym, ap, ℕ, zero, suc, ◌+◌, List, [], ◌∷◌, ◌++◌, length, map, fold, Option, None, Some, arith, append_assoc, append-nil, add-one}
 use Rattle.std.specs.List.{AllByRecursion, zip, flat_map, filter_map, cons_option, enumerate_from, range_with_len}
 use Rattle.std.specs.Option.{option_to_list}
 use Rattle.std.proofs.lemmas.List.{map-append, length-map}
@@ -99,9 +99,7 @@ events_come : (config : ConfigValues) (scene : Scene) (events : List (ℕ × Eve
 unfolding after_event
 events_come config scene [] = comes_none scene
 events_come config scene (event ∷ events) =
-    subst (Comes scene (fold (after_event config) scene (event ∷ events)))
-    (in_front (injected event) (filter_map injected events))
-    (comes_on (option_to_list (injected event)) (filter_map injected events)
+    rw (in_front (injected event) (filter_map injected events)) at (comes_on (option_to_list (injected event)) (filter_map injected events)
     (what_comes config scene event.0 event.1.what)
     (events_come config (after_event config scene event) events))
 
@@ -172,8 +170,7 @@ life_bears : (config : ConfigValues) (update cell steps : ℕ) (slot : Option Oc
     → Bears (life_of config update cell steps slot)
 unfolding life_of life_by
 life_bears config update cell steps None at = refl
-life_bears config update cell steps (Some o) at =
-    map-map birth_genome (delivery_of at o.id) _
+life_bears config update cell steps (Some o) at = map-map birth_genome (delivery_of at o.id) _
 
 -- and of those of several cells
 all_bear : (f : ℕ → CellLife) (cells : List ℕ) → ((cell : ℕ) → Bears (f cell))

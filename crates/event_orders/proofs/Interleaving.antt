@@ -36,8 +36,7 @@ module _ (config : ConfigValues) where
     -- the result of a cell is its life in the starting world
     result_is : (c : ℕ) → c < length s.world.cells
         → newborn_genomes (result_of u c) ≡ newborn_genomes (life_in config s.world c)
-    result_is c l =
-        rw ((lived.lives c (lived.ran c l)).1, lived.world) refl
+    result_is c l = rw ((lived.lives c (lived.ran c l)).1, lived.world) refl
 
     left_first : Left u all_due
     left_first = record {
@@ -97,8 +96,7 @@ module _ (config : ConfigValues) where
   calls_explained s seat_of calls are starts is =
       let first : Lived config 0 s s = record {
         ran = λ c l. absurd (omega arith);
-        idle =
-            λ c l. starts.idle c;
+        idle = λ c l. starts.idle c;
         lives = are;
         world = refl;
         history = refl;

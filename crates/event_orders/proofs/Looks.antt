@@ -51,11 +51,9 @@ module _ (config : ConfigValues) (events : List ScheduleEvent) where
       let l : n < length events = slice_get_within events n (Look observer j) later in
       let may = lawful n (Look observer j) later in
       let s = at_place config events m in
-      let same : seen_at (m + 1) observer ≡ max (s.seen observer) i =
-      ap (λ (t : State). t.seen observer) (state_with config events m (Look observer i) at)
+      let same = ap (λ (t : State). t.seen observer) (state_with config events m (Look observer i) at)
       ∙ at_same s.seen observer observer (max (s.seen observer) i) refl in
-      let rest = seen_later (m + 1) (n - (m + 1)) observer (omega arith) in
       let place : m + 1 + (n - (m + 1)) ≡ n = omega arith in
-      let moved = rw place at rest in
+      let rest = rw place at (seen_later (m + 1) (n - (m + 1)) observer (omega arith)) in
       let bound : seen_at n observer ≤ j = may.is_not_older in
       omega arith

@@ -33,9 +33,8 @@ module _ {X : Type 0} (f : ℕ → X) (n : ℕ) where
   pub Contains-from_fn : (k : ℕ) → k < n → Contains (map f (range_with_len 0 n)) (f k)
   Contains-from_fn k h = (
     k,
-    (omega (arith, length-map-range_with_len f 0 n)),
-    get_or-map-range_with_len f 0 n k k
-        (f k) h (omega arith),
+    omega (arith, length-map-range_with_len f 0 n),
+    get_or-map-range_with_len f 0 n k k (f k) h (omega arith),
   )
 
   -- each member is what it gives at some index
@@ -56,12 +55,10 @@ get_last (z ∷ xs) x (suc i) y h = elim (get_last xs x i y h)
 
 -- the last item of a list with one item more
 pub last_pushed : {X : Type 0} (xs : List X) (x y : X) → last_of (xs ++ x ∷ []) ≡ Some y → x ≡ y
-last_pushed xs x y h = elim (get_last xs x (length (xs ++ x ∷ []) - 1) y h) [
-  | inl before ↦ absurd (omega (
-    arith,
-    slice_get_within xs
-        (length (xs ++ x ∷ []) - 1) y before,
-    length-append xs (x ∷ []),
-  ))
-  | inr last ↦ last.1
-]
+last_pushed xs x y h =
+    let end = length (xs ++ x ∷ []) - 1 in
+    elim (get_last xs x end y h) [
+      | inl before ↦
+          absurd (omega (arith, slice_get_within xs end y before, length-append xs (x ∷ [])))
+      | inr last ↦ last.1
+    ]

@@ -1,6 +1,5 @@
 -- The pictures that are published are those of their updates.
-use Rattle.std.proofs.Common.{◌≡◌, ◌-◌, ℕ, zero, suc, ◌+◌, ◌<◌, List, [], ◌∷◌, ◌++◌, length, get_or, Some, refl, sym, ap, ◌∙◌, inl, inr, arith, length-append}
-use Rattle.std.specs.Prelude.{slice_get}
+use Rattle.std.proofs.Common.{◌≡◌, ◌-◌, ℕ, zero, suc, ◌<◌, List, [], ◌∷◌, ◌++◌, length, get_or, refl, sym, ap, ◌∙◌, inl, inr, arith, length-append}
 use Rattle.std.proofs.lemmas.Option.{slice_get-get_or}
 use Rattle.world_config.specs.Values.{ConfigValues}
 use Rattle.world_rules.specs.Picture.{PictureValue, picture_of}
@@ -46,10 +45,6 @@ module _ (config : ConfigValues) where
       let end = length s.pictures - 1 in
       let some = h.some in
       let last = get_or s.pictures end (picture_of config 0) in
-      let there : slice_get s.pictures end ≡ Some last =
-      slice_get-get_or s.pictures end (picture_of config 0) (omega (arith, some)) in
-      let shows : last.update ≡ end = ap (λ (p : PictureValue). p.update) (h.each end last there)
-      ∙ picture_update end in
-      let rises : (picture_of config s.world.update).update ≡ last.update + 1 =
-      may.rises last there in
-      omega (arith, some, shows, rises, picture_update s.world.update)
+      let there = slice_get-get_or s.pictures end (picture_of config 0) (omega (arith, some)) in
+      let shows : last.update ≡ end = rw (h.each end last there) (picture_update end) in
+      omega (arith, some, shows, may.rises last there, picture_update s.world.update)

@@ -78,8 +78,7 @@ module _ (config : ConfigValues) (seat_of : ℕ → ℕ) where
         (with_value_at (s.interned a) m true) (λ e. absurd (omega arith))
         (λ o. h.interned c k l n);
     first = λ k l. here (λ b. b ≡ true) k (λ e. refl) (λ n. h.first k (omega (arith, n)));
-    rest = λ k l. here (λ b. b ≡ false) k (λ e. absurd (omega arith))
-        (λ n. h.rest k (omega arith));
+    rest = λ k l. here (λ b. b ≡ false) k (λ e. absurd (omega arith)) (λ n. h.rest k (omega arith));
     idle = h.idle;
     none = λ c k l. at_either (λ (f : ℕ → Bool). f k ≡ false) s.interned a c
         (with_value_at (s.interned a) m true) (λ e. absurd (omega arith)) (λ o. h.none c k l);
@@ -111,14 +110,12 @@ module _ (config : ConfigValues) (seat_of : ℕ → ℕ) where
       (record {
         has_result = h.ran a (omega arith);
         is_newborn = omega arith;
-        is_new =
-            h.rest m (omega arith);
+        is_new = h.rest m (omega arith);
       }) refl in
       let rest = interns d a (m + 1) (state_after_event config s (Intern (seat_of a) a m))
       (interned_next (seat_of a) a m s h) (omega arith) in (
         rest.0,
-        goes_on config (IsOfSeat seat_of) s
-            (state_after_event config s (Intern (seat_of a) a m)) rest.0 0 0 one rest.1,
+        goes_on config (IsOfSeat seat_of) s _ rest.0 0 0 one rest.1,
         rest.2,
         record
             { world = rest.3.world; pictures = rest.3.pictures; seen = rest.3.seen },
@@ -153,14 +150,12 @@ module _ (config : ConfigValues) (seat_of : ℕ → ℕ) where
       ap (λ w. length w.cells) all.3.world in
       let rest = lives d (a + 1) all.0 (done_next a all.0 all.2) (omega arith) in (
         rest.0,
-        goes_on config (IsOfSeat seat_of) s s1 rest.0 0 0 one
-            (goes_on config (IsOfSeat seat_of) s1 all.0 rest.0 0 0 all.1 rest.1),
+        goes_on config _ s s1 _ 0 0 one (goes_on config _ s1 all.0 rest.0 0 0 all.1 rest.1),
         rest.2,
         record {
           world = rest.3.world ∙ all.3.world;
           pictures = rest.3.pictures ∙ all.3.pictures;
-          seen =
-              rest.3.seen ∙ all.3.seen;
+          seen = rest.3.seen ∙ all.3.seen;
         },
       )
 
@@ -169,8 +164,7 @@ module _ (config : ConfigValues) (seat_of : ℕ → ℕ) where
       → Done 0 s
   done_none s idle none = record {
     ran = λ c l. absurd (omega arith);
-    interned =
-        λ c k l. absurd (omega arith);
+    interned = λ c k l. absurd (omega arith);
     idle = λ c l. idle c;
     none = λ c k l. none c k;
   }
@@ -237,12 +231,11 @@ module _ (config : ConfigValues) (seat_of : ℕ → ℕ) where
     -- these three events lead there, and end one update
     update_ends : Leads s 1 looked
     update_ends =
-        goes_on config (IsOfSeat seat_of) s ended looked 1 0
-        (goes_one config (IsOfSeat seat_of) s (Gather 0)
+        let Is = IsOfSeat seat_of in
+        goes_on config Is s ended looked 1 0 (goes_one config Is s (Gather 0)
         (record { every_cell = done.ran; every_newborn = done.interned }) tt)
-        (goes_on config (IsOfSeat seat_of) ended published looked 0 0
-        (goes_one config (IsOfSeat seat_of) ended Publish may_publish tt)
-        (goes_one config (IsOfSeat seat_of) published (Look 0 (n + 1)) may_look tt))
+        (goes_on config Is ended published looked 0 0 (goes_one config Is ended Publish may_publish tt)
+        (goes_one config Is published (Look 0 (n + 1)) may_look tt))
 
     -- again all pictures are published, and the first observer has seen the last one
     shown_next : Shown (n + 1) looked
