@@ -1,5 +1,5 @@
 -- The ids of a world, through an update.
-use Rattle.std.proofs.Common.{◌≡◌, ◌∙◌, refl, sym, ap, subst, ℕ, zero, suc, ◌+◌, ◌*◌, ◌<◌, ◌≤◌, List, [], ◌∷◌, ◌++◌, length, map, fold, replicate, Option, None, Some, arith, ◌⊎◌, inl, inr, length-append}
+use Rattle.std.proofs.Common.{◌≡◌, refl, sym, ap, ℕ, zero, suc, ◌+◌, ◌*◌, ◌<◌, ◌≤◌, List, [], ◌∷◌, ◌++◌, length, map, fold, replicate, Option, None, Some, arith, ◌⊎◌, inl, inr, length-append}
 use Rattle.std.specs.Prelude.{All, slice_get, slice_index_or}
 use Rattle.std.specs.List.{AllByRecursion, zip, flat_map, enumerate_from, range_with_len}
 use Rattle.std.proofs.lemmas.Bool.{cases_lt}
@@ -43,8 +43,7 @@ numbered_more : (everyone : List Link) (link : Link) → AreNumbered everyone
 numbered_more everyone link are is place other there =
     elim (get_last everyone link place other there) [
       | inl before ↦ are place other before
-      | inr last ↦ subst (λ n. HasPlaceAsId n other) last.0
-          (subst (λ l. HasPlaceAsId (length everyone) l) last.1 is)
+      | inr last ↦ rw (sym last.0, sym last.1) is
     ]
 
 -- after a death a scene's ids are places still
@@ -64,17 +63,12 @@ numbered_deaths scene [] is = is
 numbered_deaths scene (cell ∷ cells) is =
     numbered_deaths (with_death scene cell) cells (numbered_death scene cell is)
 
--- a death leaves the list of all as it is
-death_keeps : (scene : Scene) (cell : ℕ) → (with_death scene cell).everyone ≡ scene.everyone
-unfolding with_death
-death_keeps scene cell = refl
-
--- so do deaths, one after another
+-- deaths leave the list of all as it is
 deaths_keep : (scene : Scene) (cells : List ℕ)
     → (fold with_death scene cells).everyone ≡ scene.everyone
+unfolding with_death
 deaths_keep scene [] = refl
-deaths_keep scene (cell ∷ cells) =
-    deaths_keep (with_death scene cell) cells ∙ death_keeps scene cell
+deaths_keep scene (cell ∷ cells) = deaths_keep (with_death scene cell) cells
 
 -- with a newcomer that has its place as its id, a scene's ids are places still
 numbered_newcomer : (scene : Scene) (link : Link) (organism : OrganismState) → IsNumberedScene scene
@@ -165,8 +159,7 @@ slot_among : (count : ℕ) (cells : List (Option Occupant)) (cell : ℕ) → Are
     → IsBelow count (id_of (slice_index_or cells cell None))
 slot_among count cells cell among = elim (cases_lt cell (length cells)) [
   | inl within ↦ among cell None within
-  | inr past ↦ subst (λ slot. IsBelow count (id_of slot)) (sym (get_or_past cells cell None past))
-      tt
+  | inr past ↦ rw (get_or_past cells cell None past) tt
 ]
 
 -- who stands in the cells after their lives is one of so many

@@ -37,22 +37,19 @@ line_there lines [] place link there below = absurd cc
 line_there lines (first ∷ links) zero link there below =
     let same : first ≡ link = cc in
     let none : length lines + 0 ≡ length lines = omega arith in
-    let all = fold with_descent_line (with_descent_line lines link) links in
     let parent : IsBelow (length lines) link.parent =
     subst (λ n. IsBelow n link.parent) none below in
-    subst (λ f. get_or (fold with_descent_line lines (f ∷ links)) (length lines + 0) []
-    ≡ line_of_parent (fold with_descent_line lines (f ∷ links)) link.parent ++ link ∷ []) (sym same)
-    (ap (λ n. get_or all n []) none
-    ∙ line_kept (with_descent_line lines link) links (length lines)
-    (omega (arith, length-with_line lines link))
-    ∙ get_or-append_seam lines (line_of_parent lines link.parent ++ link ∷ []) [] []
-    ∙ ap (λ l. l ++ link ∷ []) (sym (parent_kept lines (link ∷ links) link.parent parent)))
+    rw (
+      same,
+      none,
+      line_kept (with_descent_line lines link) links (length lines)
+          (omega (arith, length-with_line lines link)),
+      parent_kept lines (link ∷ links) link.parent parent,
+    ) (get_or-append_seam lines (line_of_parent lines link.parent ++ link ∷ []) [] [])
 line_there lines (first ∷ links) (suc place) link there below =
     let next : length lines + suc place ≡ length (with_descent_line lines first) + place =
     omega (arith, length-with_line lines first) in
-    ap (λ n. get_or (fold with_descent_line (with_descent_line lines first) links) n []) next
-    ∙ line_there (with_descent_line lines first) links place link there
-    (subst (λ n. IsBelow n link.parent) next below)
+    rw next (line_there (with_descent_line lines first) links place link there (rw next at below))
 
 -- so it is for each id of a numbered list
 pub line_of_each : (everyone : List Link) (id : ℕ) (link : Link) → AreNumbered everyone
