@@ -53,7 +53,7 @@ begins d empty = record {
 
     none_carried : NumbersArePlaces (first_view ∷ [])
     none_carried zero v n e c =
-        absurd (off (subst (λ (u : View). Carries u n) (sym (some-injective first_view v e)) c))
+        absurd (off (rw (← some-injective first_view v e) at c))
     none_carried (suc j) v n e c = absurd (nothing_there j v e)
 
 -- a seat that keeps all but a share of 1, which a new seat gets, keeps the rule
@@ -256,15 +256,11 @@ joins id v other w pos free free' idle' idle'' s k at apart there =
         → is_among n y.carried ≡ true → i ≡ j
     two v w no' zero zero x y n a b c d = refl
     two v w no' zero (suc zero) x y n a b c d =
-        absurd (no' n (subst (λ (m : Memo). is_among n m.carried ≡ true)
-        (sym (some-injective (memo_of v) x a)) c)
-        (subst (λ (m : Memo). is_among n m.carried ≡ true) (sym (some-injective (memo_of w) y b))
-        d))
+        absurd (no' n (rw (← some-injective (memo_of v) x a) at c)
+        (rw (← some-injective (memo_of w) y b) at d))
     two v w no' (suc zero) zero x y n a b c d =
-        absurd (no' n (subst (λ (m : Memo). is_among n m.carried ≡ true)
-        (sym (some-injective (memo_of v) y b)) d)
-        (subst (λ (m : Memo). is_among n m.carried ≡ true) (sym (some-injective (memo_of w) x a))
-        c))
+        absurd (no' n (rw (← some-injective (memo_of v) y b) at d)
+        (rw (← some-injective (memo_of w) x a) at c))
     two v w no' (suc zero) (suc zero) x y n a b c d = refl
     two v w no' (suc (suc i)) j x y n a b c d = absurd (nothing_there i x a)
     two v w no' zero (suc (suc j)) x y n a b c d = absurd (nothing_there j y b)
