@@ -3,7 +3,7 @@ use Rattle.std.proofs.Common.{◌≡◌, inl, inr, ⊎_elim, ◌∙◌, refl, sy
 use Rattle.std.specs.Prelude.{Contains, IfSome, IsSome, nat_eq}
 use Rattle.std.specs.BTreeMap.{insert_entry, is_at}
 use Rattle.std.specs.Map.{lookup, remove_entry, set_value}
-use Rattle.std.specs.Option.{option_map_or, unwrap_or}
+use Rattle.std.specs.Option.{option_map_or}
 use Rattle.std.proofs.lemmas.Bool.{cases_Bool, or_parts}
 use Rattle.lineage_log.specs.Nodes.{NodeValue, AreFamilies, AreFewer, AreNeededBut, AreNodes, IsSettled, id_order, is_needed, living_ids_of, node_at}
 use Rattle.lineage_log.proofs.NodeLemmas.{Rises, by_key, some_of}
@@ -101,11 +101,10 @@ module _ (start before mid after : List (ℕ × NodeValue)) (id : ℕ) (old new 
         families = families;
         needed = λ other node has dies hole. elim (by_key id other) [
           | inl here ↦
-              let one : node ≡ new = one_node (node_at mid id) node new
-              (subst (λ n. node_at mid n ≡ Some node) (sym here.0) has) new_at in
+              let one : node ≡ new =
+              one_node (node_at mid id) node new (rw (← here.0) at has) new_at in
               ltb-true 0 node.children (rw dies at (ap is_needed one ∙ wanted))
-          | inr apart ↦ needed other node has dies
-              (λ it. apart.0 (ap (λ (o : Option ℕ). unwrap_or o 0) it))
+          | inr apart ↦ needed other node has dies (λ it. apart.0 cc)
         ];
         fewer = fewer;
       } in
