@@ -4,6 +4,7 @@ use Rattle.std.specs.Prelude.{◌&&◌, ◌==◌, not, is_some, option_map}
 use Rattle.std.specs.Char.{is_ascii_digit}
 use Rattle.std.specs.List.{slice_split, onto_first}
 use Rattle.std.specs.Str.{all_ascii_digits, bytes_eq}
+use Rattle.std.proofs.lemmas.Grind.{common_steps}
 use Rattle.std.proofs.lemmas.Bool.{cases_Bool}
 use Rattle.std.proofs.lemmas.Bool.Decides.{nat_tests}
 use Rattle.std.proofs.lemmas.List.{take_all}
@@ -73,16 +74,14 @@ digits_split (b ∷ bs) = elim (cases_Bool (is_ascii_digit b)) [
 
 -- a conjunction with false
 and_false : (v : Bool) → (v && false) ≡ false
-and_false true = refl
-and_false false = refl
+and_false v = grind arith
 
 -- a digit in front
 parts_on : (b : ℕ) (bs : List ℕ) (left : Option (Option (List ℕ))) → is_ascii_digit b ≡ true
     → Parts bs left → Parts (b ∷ bs) left
 parts_on b bs (Some left) is so =
     let other : (b == 32) ≡ false = grind (arith, nat_tests, is) in
-    cut_on b bs other ∙ ap (onto_first b) so
-    ∙ ap (λ (word : List ℕ). word ∷ words_of left) (sym (digits_on b bs is))
+    rw (cut_on b bs other, so, digits_on b bs is)
 parts_on b bs None is so =
     let other : (b == 32) ≡ false = grind (arith, nat_tests, is) in (
       b ∷ so.0,
@@ -94,8 +93,7 @@ parts_on b bs None is so =
 -- another byte in front
 parts_end : (b : ℕ) (bs : List ℕ) → is_ascii_digit b ≡ false → Parts (b ∷ bs) (after_word (b ∷ bs))
 parts_end b bs isnt = elim (cases_Bool (b == 32)) [
-  | inl is ↦ rw is
-      (cut_here b bs is ∙ ap (λ (word : List ℕ). word ∷ cut bs) (sym (no_digits b bs isnt)))
+  | inl is ↦ rw (is, cut_here b bs is, no_digits b bs isnt)
   | inr other ↦
       let some = onto_some b (cut bs) in
       rw other (b ∷ some.0, some.1, cut_on b bs other ∙ some.2, rw isnt)
@@ -116,8 +114,7 @@ parts (b ∷ bs) = elim (cases_Bool (is_ascii_digit b)) [
 not_numeral : (word : List ℕ) → all_ascii_digits word ≡ false → is_numeral word ≡ false
 not_numeral [] isnt = refl
 not_numeral (d ∷ []) isnt = isnt
-not_numeral (d ∷ e ∷ ds) isnt =
-    ap (λ (v : Bool). not (d == 48) && v) isnt ∙ and_false (not (d == 48))
+not_numeral (d ∷ e ∷ ds) isnt = rw isnt (and_false (not (d == 48)))
 
 -- what has another byte is no number
 pub not_number : (least greatest : ℕ) (word : List ℕ) → all_ascii_digits word ≡ false
@@ -161,8 +158,7 @@ module _ (least greatest : ℕ) (bytes : List ℕ) where
       → Some n ≡ read (leading_digits bytes) → len ≡ digits_len bytes
       → left ≡ after_word (drop len bytes) → with_left n left ≡ read_first read (cut bytes)
   front_number n len left is far end =
-      let here : after_word (drop (digits_len bytes) bytes) ≡ left =
-      ap (λ (k : ℕ). after_word (drop k bytes)) (sym far) ∙ sym end in
+      let here : after_word (drop (digits_len bytes) bytes) ≡ left = rw (← far, ← end) in
       read_parts n left (subst (λ (o : Option (Option (List ℕ))). Parts bytes o) here (parts bytes))
       is
 
@@ -233,8 +229,7 @@ need_words (form ∷ others) = cond (is_some (form.row.read [])) false (need_wor
 none_given : {A : Type 0} (make : A → Line) (found : Option A) (here others : Bool)
     (rest : Option Line) → cond (is_some found) false others ≡ true
     → (others ≡ true → rest ≡ None) → cond here (option_map make found) rest ≡ None
-none_given make None true others rest need behind = refl
-none_given make None false others rest need behind = behind need
+none_given make None here others rest need behind = grind (arith, common_steps, behind need)
 none_given make (Some a) here others rest need behind = absurd cc
 
 -- a mark alone is no line
@@ -247,8 +242,7 @@ bare_mark (form ∷ others) need mark =
 
 -- where a test fails, the other side is chosen
 cond_skip : (v : Bool) (x o : Option Line) → o ≡ None → cond (v && false) x o ≡ None
-cond_skip true x o is = is
-cond_skip false x o is = is
+cond_skip v x o is = grind (arith, common_steps)
 
 -- a mark of two bytes is that of no form
 long_mark : (table : List LineForm) (b c : ℕ) (word : List ℕ) (words : List (List ℕ))
