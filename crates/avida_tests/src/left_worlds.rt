@@ -15,11 +15,10 @@ divide_insert = 0
 divide_delete = 0
 ";
 
-/// Lines of words, and an input, which may be the name of one, with the world that each leaves: how
-/// many live in it or are an ancestor, its cells, its counts, the length of its bank, and who lives
-/// where, with the genome's number. Of the last world it is the begin: an independent program wrote
-/// its log, in which these organisms live at the end or are an ancestor, and so many genomes are
-/// different.
+/// Words and an input, which may be the name of one, with the world that is left: how many live in
+/// it or are an ancestor, its cells, its counts, the length of its bank, and who lives where, with
+/// the genome's number. Of the last world it is the begin: an independent program wrote its log, in
+/// which these organisms live at the end or are an ancestor, and so many genomes are different.
 const WORLDS: &str = "run
 =>
 updates = 0
@@ -32,6 +31,16 @@ bank of 1
 end
 ---
 run --watch 0 --workers 64
+=>
+one cell
+=>
+2 nodes
+1 cells
+U 13 1 1 1 1 97 0 0 0 0 0 0 0 0 0
+bank of 1
+0 0 wzcagcccccccccccccccccccccccccccccccccccccccccccccccccccccccccccccccccccccccccccccccccccccczvfcaxgab
+end
+---
 lineage 0
 =>
 one cell
@@ -151,23 +160,21 @@ fn the_world_after_the_last_update_is_left(rt: HostRuntime) -> Result<(), Fail> 
     let alloc = rt.alloc();
     let mut watch = SureSink::new(alloc);
     for case in WORLDS.split("---\n") {
-        let (lines, rest) = case.split_once("\n=>\n").ok_or("no input")?;
+        let (words, rest) = case.split_once("\n=>\n").ok_or("no input")?;
         let (input, wanted) = rest.split_once("=>\n").ok_or("no world")?;
         let input = if input == "one cell\n" {
             ONE_CELL
         } else {
             input
         };
-        for words in lines.split('\n') {
-            let (_, last) = serve_on(&rt, alloc, words, input, &mut watch, &NoGate)?;
-            let world = last.ok_or("nothing left")?;
-            let text = text_of(alloc, &world)?;
-            assert!(rt; text.starts_with(wanted.as_bytes()), "{case}");
-            assert_eq!(rt; world.update(), world.stats().update, "{case}");
-        }
+        let (_, last) = serve_on(&rt, alloc, words, input.as_bytes(), &mut watch, &NoGate)?;
+        let world = last.ok_or("nothing left")?;
+        let text = text_of(alloc, &world)?;
+        assert!(rt; text.starts_with(wanted.as_bytes()), "{case}");
+        assert_eq!(rt; world.update(), world.stats().update, "{case}");
     }
     for (words, input) in NO_WORLDS {
-        let (_, last) = serve_on(&rt, alloc, words, input, &mut watch, &NoGate)?;
+        let (_, last) = serve_on(&rt, alloc, words, input.as_bytes(), &mut watch, &NoGate)?;
         assert!(rt; last.is_none(), "{words}");
     }
     Ok(())

@@ -7,13 +7,13 @@ use std::thread::Threads;
 use std::time::Clock;
 use world_core::World;
 
-/// Serves the words, which spaces part, on this input, with this watch and this gate. It gives the
+/// Serves the words, which spaces part, on these bytes, with this watch and this gate. It gives the
 /// status, and the world that is left.
 pub fn serve_on<R: Threads + Wait + Clock + Sync, W: Sink + Send, G: Gate + Sync>(
     rt: &R,
     alloc: Global,
     words: &str,
-    input: &str,
+    bytes: &[u8],
     watch: &mut W,
     gate: &G,
 ) -> Result<(Status, Option<World>), AllocError> {
@@ -21,7 +21,7 @@ pub fn serve_on<R: Threads + Wait + Clock + Sync, W: Sink + Send, G: Gate + Sync
     for word in words.split(' ') {
         texts.push(String::from_str(alloc, word)?)?;
     }
-    let mut source = MemSource::new(input.as_bytes().to_vec(alloc)?, 2, Vec::new(alloc));
+    let mut source = MemSource::new(bytes.to_vec(alloc)?, 2, Vec::new(alloc));
     let mut out = SureSink::new(alloc);
     let mut err = SureSink::new(alloc);
     let mut last = None;

@@ -84,7 +84,7 @@ fn shards_and_a_watcher_are_at_work_at_the_same_time(rt: HostRuntime) -> Result<
         &rt,
         alloc,
         "run --watch 1000000 --workers 2",
-        CONFIG,
+        CONFIG.as_bytes(),
         &mut watch,
         &holding,
     )?;
