@@ -1,10 +1,11 @@
 -- The steps of one interning, put together.
-use Rattle.std.proofs.Common.{◌≡◌, ℕ, List, [], ◌∷◌, ◌++◌, true, inl, inr, refl, sym, ap, ◌∙◌, eq-eqb, ◌||◌, Option, append_assoc}
+use Rattle.std.proofs.Common.{arith, ◌≡◌, ℕ, List, [], ◌∷◌, ◌++◌, true, inl, inr, refl, sym, ap, ◌∙◌, eq-eqb, Option, append_assoc}
 use Rattle.std.proofs.lemmas.Bool.{cases_Bool}
+use Rattle.std.proofs.lemmas.Grind.{common_steps}
 use mathlib.Core.List.{IsPrefix}
 use Rattle.std.specs.List.Sorted.{IsPermutation}
 use Rattle.std.proofs.lemmas.List.Sorted.{IsPermutation-refl, IsPermutation-trans, IsPermutation-cons, IsPermutation-middle}
-use Rattle.genotype_bank.proofs.HistoryLemmas.{has_app, own_if}
+use Rattle.genotype_bank.proofs.HistoryLemmas.{has_app, not_so}
 use Rattle.genotype_bank.specs.declared.catalog.Catalog.{Catalog}
 use Rattle.genotype_bank.specs.declared.view.View.{View}
 use Rattle.genotype_bank.specs.declared.view.Entry.{Entry}
@@ -21,11 +22,8 @@ use Rattle.genotype_bank.proofs.DifferentLemmas.{OneList, genotypes_of_push}
 -- a call under one of some numbers at the end of a history is the last under them
 pub own_end : (c : List ℕ) (h : List Entry) (e : Entry) → is_among e.seat c ≡ true
     → calls_under c (h ++ e ∷ []) ≡ calls_under c h ++ e ∷ []
-own_end c [] e is = ap (λ b. own_if b e []) is
-own_end c (x ∷ h) e is = elim (cases_Bool (is_among x.seat c)) [
-  | inl has ↦ rw (has, own_end c h e is)
-  | inr not ↦ rw not (own_end c h e is)
-]
+own_end c [] e is = rw is
+own_end c (x ∷ h) e is = grind (arith, common_steps, own_end c h e is)
 
 -- a seat has seen a longer history that ends with this call, and it is the seat's one call more
 abbrev pub Grows : View → View → Call → Type 0
@@ -43,9 +41,7 @@ grown v j t history call first pre same = (
   history,
   pre,
   refl,
-  own_end (j ∷ v.carried) history (entry j call)
-      (ap (λ b. b || is_among j v.carried) (eq-eqb j j refl))
-      ∙ ap (λ l. l ++ entry j call ∷ []) (same ∙ first),
+  rw (own_end (j ∷ v.carried) history (entry j call) (rw (eq-eqb j j refl)), same, first),
 )
 
 -- so it is of a seat after a draw, a turn and a release
@@ -70,17 +66,11 @@ own_both c d [] no' = IsPermutation-refl []
 own_both c d (e ∷ es) no' =
     let p = own_both c d es no' in
     rw (has_app e.seat c d) (elim (cases_Bool (is_among e.seat c)) [
-      | inl a ↦ elim (cases_Bool (is_among e.seat d)) [
-        | inl b ↦ absurd (no' e.seat a b)
-        | inr b ↦ rw (a, b) (IsPermutation-cons e (calls_under c es ++ calls_under d es)
-            (calls_under (c ++ d) es) p)
-      ]
+      | inl a ↦ rw (a, not_so (is_among e.seat d) (no' e.seat a)) (IsPermutation-cons e _ _ p)
       | inr a ↦ elim (cases_Bool (is_among e.seat d)) [
-        | inl b ↦ rw (a, b) (IsPermutation-trans (calls_under c es ++ e ∷ calls_under d es)
-            (e ∷ (calls_under c es ++ calls_under d es)) (e ∷ calls_under (c ++ d) es)
+        | inl b ↦ rw (a, b) (IsPermutation-trans _ _ _
             (IsPermutation-middle (calls_under c es) e (calls_under d es))
-            (IsPermutation-cons e (calls_under c es ++ calls_under d es) (calls_under (c ++ d) es)
-            p))
+            (IsPermutation-cons e _ _ p))
         | inr b ↦ rw (a, b) p
       ]
     ])
