@@ -1,5 +1,5 @@
 -- What the rule says of one seat.
-use Rattle.std.proofs.Common.{◌≡◌, ◌≢◌, ℕ, ◌<◌, ◌≤◌, List, [], length, set, sym, ap, ◌∙◌, subst, arith, Option, Some, None}
+use Rattle.std.proofs.Common.{◌≡◌, ◌≢◌, ℕ, ◌<◌, ◌≤◌, List, [], set, ap, ◌∙◌, subst, arith, Option, Some, None}
 use mathlib.Core.Option.{some}
 use mathlib.Core.Logic.{dite}
 use mathlib.Core.List.{IsPrefix}
@@ -13,7 +13,7 @@ use Rattle.genotype_bank.specs.declared.view.Entry.{Entry}
 use Rattle.genotype_bank.specs.Seats.{all_shares}
 use Rattle.genotype_bank.specs.Views.{idle_view, spent_view, total, seat_share, draws_of, one_if, Carries, FitsHistory, SawOwn}
 use Rattle.genotype_bank.specs.BankTable.{IsBankTable}
-use Rattle.genotype_bank.proofs.ViewLemmas.{one_there, total_set, total_le, total_ge}
+use Rattle.genotype_bank.proofs.ViewLemmas.{total_set, total_le, total_ge}
 use Rattle.genotype_bank.proofs.HistoryLemmas.{none_some, off, nothing_there, pre_whole}
 
 -- a seat between its calls, which has seen its own of a prefix of the history
@@ -51,24 +51,20 @@ pub own_number : (s : State (Option Catalog) View) (k : IsBankTable s) (id : ℕ
 own_number s k id v at pos i e there is =
     let c = k.seats.called i e there in
     let p = k.seats.placed c.0 c.1 e.seat c.2 c.3 in
-    let u_is : v ≡ p.0 =
-    one_there s.views id v p.0 at (subst (λ n. get_elem? s.views n ≡ some p.0) is p.1) in
-    let j_is : c.0 ≡ id = p.2 (subst (λ (u : View). 0 < u.share) u_is pos) ∙ is in
-    let w_is : c.1 ≡ v =
-    one_there s.views id c.1 v (subst (λ n. get_elem? s.views n ≡ some c.1) j_is c.2) at in
-    subst (λ (y : View × ℕ). Carries y.0 y.1) (λ i. (w_is i, is i)) c.3
+    let u_is : v ≡ p.0 = cc (at, p.1, is) in
+    let j_is : c.0 ≡ e.seat = p.2 (subst (λ (u : View). 0 < u.share) u_is pos) in
+    let w_is : c.1 ≡ v = cc (at, c.2, j_is, is) in
+    cc (c.3, w_is, is)
 
 -- no more than 4294967296 tickets are out
 pub draws_below : (s : State (Option Catalog) View) (k : IsBankTable s)
     → total draws_of s.views ≤ 4294967296
-draws_below s k = let h = total_le draws_of seat_share s.views one in
-    let z : total seat_share s.views ≡ 4294967296 = k.seats.shares in omega arith
+draws_below s k = omega (arith, total_le draws_of seat_share s.views one, k.seats.shares)
   where
     one : (j : ℕ) (v : View) → get_elem? s.views j ≡ some v → draws_of v ≤ seat_share v
     one j v at = dite (ℕ_discrete v.share 0)
-        (λ e. let f = k.each j v at in let z : draws_of v ≡ 0 = ap draws_of (f.spent e) in
-        omega arith)
-        (λ ne. let b = at_most v.ticket in omega arith)
+        (λ e. omega (arith, ap draws_of ((k.each j v at).spent e)))
+        (λ ne. omega (arith, at_most v.ticket))
       where
         at_most : (o : Option ℕ) → one_if o ≤ 1
         at_most None = omega arith
@@ -77,10 +73,8 @@ draws_below s k = let h = total_le draws_of seat_share s.views one in
 -- a seat with a ticket is not spent
 pub drawn_lives : (history : List Entry) (drawn : ℕ) (v : View) (t : ℕ)
     → FitsHistory history drawn v → v.ticket ≡ Some t → 0 < v.share
-drawn_lives history drawn v t f is =
-    dite (ℕ_discrete v.share 0)
-    (λ e. absurd (none_some t (sym (ap (λ (u : View). u.ticket) (f.spent e)) ∙ is)))
-    (λ ne. omega arith)
+drawn_lives history drawn v t f is = dite (ℕ_discrete v.share 0)
+    (λ e. absurd (cc (f.spent e, is))) (λ ne. omega arith)
 
 -- where a seat has all shares, the others are spent
 pub others_spent : (s : State (Option Catalog) View) (k : IsBankTable s) (id : ℕ) (w : View)
@@ -101,8 +95,7 @@ pub carried_all : (s : State (Option Catalog) View) (k : IsBankTable s) (id : �
     → get_elem? s.views id ≡ some w → w.share ≡ all_shares → (i : ℕ) (e : Entry)
     → get_elem? k.history i ≡ some e → Carries w e.seat
 carried_all s k id w at all i e there = let c = k.seats.called i e there in dite (ℕ_discrete c.0 id)
-    (λ is. subst (λ (u : View). Carries u e.seat)
-    (one_there s.views id c.1 w (subst (λ n. get_elem? s.views n ≡ some c.1) is c.2) at) c.3)
+    (λ is. let same : c.1 ≡ w = cc (at, c.2, is) in cc (c.3, same))
     (λ ne. absurd (off (subst (λ (u : View). Carries u e.seat)
     (others_spent s k id w at all c.0 c.1 c.2 ne) c.3)))
 
@@ -110,10 +103,6 @@ carried_all s k id w at all i e there = let c = k.seats.called i e there in dite
 pub whole_seen : (s : State (Option Catalog) View) (k : IsBankTable s) (id : ℕ) (v : View)
     → get_elem? s.views id ≡ some v → v.share ≡ all_shares → v.seen ≡ k.history
 whole_seen s k id v at all = let c = k.seats.known in dite (ℕ_discrete c.0 id)
-    (λ is. subst (λ (u : View). u.seen ≡ k.history)
-    (one_there s.views id c.1 v (subst (λ n. get_elem? s.views n ≡ some c.1) is c.2) at) c.3)
-    (λ ne. let z : [] ≡ k.history =
-    subst (λ (u : View). u.seen ≡ k.history) (others_spent s k id v at all c.0 c.1 c.2 ne) c.3
-    in
-    pre_whole v.seen k.history (k.each id v at).begins
-    (let y = ap (λ (l : List Entry). length l) z in omega arith))
+    (λ is. let same : c.1 ≡ v = cc (at, c.2, is) in cc (c.3, same))
+    (λ ne. let z : [] ≡ k.history = cc (others_spent s k id v at all c.0 c.1 c.2 ne, c.3) in
+    pre_whole v.seen k.history (k.each id v at).begins (rw (← z) (omega arith)))

@@ -1,5 +1,5 @@
 -- A turn is drawn, looked for and released. Each step keeps the rule.
-use Rattle.std.proofs.Common.{◌≡◌, ◌≢◌, ℕ, suc, ◌+◌, ◌%◌, ◌^◌, ◌<◌, List, [], ◌∷◌, ◌++◌, length, set, get_or, true, false, refl, sym, ap, ◌∙◌, subst, inl, inr, ⊎_elim, arith, length-append, append-nil, Some, None}
+use Rattle.std.proofs.Common.{add-one, ◌≡◌, ◌≢◌, ℕ, suc, ◌+◌, ◌%◌, ◌^◌, ◌<◌, List, [], ◌∷◌, ◌++◌, length, set, get_or, true, false, refl, sym, ap, ◌∙◌, subst, inl, inr, ⊎_elim, arith, length-append, append-nil, Some, None}
 use Rattle.std.proofs.Math.Nat.{mod-add-mod}
 use mathlib.Core.Option.{some, none}
 use mathlib.Core.Logic.{dite}
@@ -7,7 +7,7 @@ use mathlib.Core.List.{IsPrefix}
 use native.Mathlib.Decide.{ℕ_discrete}
 use lib.ListN.{get_elem?}
 use Rattle.atomic_table.proofs.Lists.{set_here, set_again, one_turn}
-use Rattle.atomic_table.specs.Table.{step, keeps, takes, gives, put_back, Allows, stepped}
+use Rattle.atomic_table.specs.Table.{step, keeps, takes, gives, Allows, stepped}
 use Rattle.genotype_bank.specs.declared.catalog.Catalog.{Catalog}
 use Rattle.genotype_bank.specs.declared.view.View.{View}
 use Rattle.genotype_bank.specs.declared.view.Entry.{Entry}
@@ -16,7 +16,7 @@ use Rattle.genotype_bank.specs.Views.{idle_view, seat_share, draws_of, one_if, C
 use Rattle.genotype_bank.specs.Catalog.{genomes_in, call_in}
 use Rattle.genotype_bank.specs.BankTable.{IsBankTable, Seated}
 use Rattle.genotype_bank.specs.BankSteps.{with_ticket, HasDrawn, at_turn, HasLooked, last_drawn_number, after_turn, HasReleased}
-use Rattle.genotype_bank.proofs.ViewLemmas.{within, one_there, total_set, each_set, at_end, only_set, only_keep, seats_kept, some_set, placed_set}
+use Rattle.genotype_bank.proofs.ViewLemmas.{within, total_set, each_set, at_end, only_set, only_keep, seats_kept, some_set, placed_set}
 use Rattle.genotype_bank.proofs.HistoryLemmas.{none_some, value, off, own_more, in_front, has_back, has_front, own_seen, pre_trans, own_all, second_case}
 use Rattle.genotype_bank.proofs.TableLemmas.{fits_rest, own_number, draws_below, drawn_lives, carried_all}
 
@@ -37,9 +37,8 @@ draws slots id m pos free idle' s k wide at small =
       | inl a ↦ ne (k.seats.apart n j id y v e at cy a)
       | inr a ↦
           let p = k.seats.placed j y n e cy in
-          ne (p.2 (subst (λ (u : View). 0 < u.share)
-          (one_there s.views id v p.0 at (subst (λ l. get_elem? s.views l ≡ some p.0) a p.1)) pos)
-          ∙ a)
+          let same : v ≡ p.0 = cc (at, a, p.1) in
+          ne (p.2 (subst (λ (u : View). 0 < u.share) same pos) ∙ a)
     ] in (
       w,
       keeps,
@@ -47,14 +46,10 @@ draws slots id m pos free idle' s k wide at small =
       record {
         history = k.history;
         drawn = suc t;
-        words = ap (λ ws. set ws 0 ((get_or ws 0 0 + 1) % 2 ^ 64)) k.words
-            ∙ ap (λ n. n ∷ (length k.history % 2 ^ 64) ∷ [])
-            (mod-add-mod t (2 ^ 64) 1
-            ∙ ap (λ n. n % 2 ^ 64) (let h : t + 1 ≡ suc t = omega arith in h));
+        words = rw (k.words, mod-add-mod t (2 ^ 64) 1, add-one t);
         out = omega (arith, total_set draws_of s.views id v w at, ap one_if free, k.out);
         turn = λ n. only_set (λ (u : View). u.ticket ≡ Some n) s.views id w (k.turn n)
-            (λ is j y _ e other. let same : t ≡ n = ap value is in let b : n < t =
-            ((k.each j y e).waits n other).1 in omega arith);
+            (λ is j y _ e other. omega (arith, ap value is, ((k.each j y e).waits n other).1));
         seats = record {
           shares = omega (arith, total_set seat_share s.views id v w at, k.seats.shares);
           apart =
@@ -73,8 +68,7 @@ draws slots id m pos free idle' s k wide at small =
             record {
               begins = g.begins;
               spent = g.spent;
-              waits = λ n is. let b = g.waits n is in
-                  (b.0, let c : n < t = b.1 in omega arith);
+              waits = λ n is. let b = g.waits n is in (b.0, omega (arith, b.1));
               holds = g.holds;
               saw = g.saw;
               recalls = g.recalls;
@@ -88,7 +82,7 @@ draws slots id m pos free idle' s k wide at small =
               holds = λ h. absurd (off h);
               saw = λ i e there c. elim (has_back id e.seat v.carried c) [
                 | inl a ↦ f.saw i e there a
-                | inr a ↦ f.saw i e there (subst (λ n. Carries v n) (sym a) (known i e there a))
+                | inr a ↦ f.saw i e there (cc (a, known i e there a))
               ];
               recalls = λ j x there. let r = f.recalls j x there in
                   (r.0, r.1, λ n c. has_front id n v.carried (r.2 n c));
@@ -169,19 +163,13 @@ serves slots id m t mine idle' nothing s k wide at small =
     let c = o.1 in
     let hold = (k.each c.0 c.1 c.2).holds c.3 in
     let j_is : c.0 ≡ id = k.turn len c.0 id c.1 v c.2 at hold.0 mine' in
-    let w_is : c.1 ≡ v =
-    one_there s.views id c.1 v (subst (λ n. get_elem? s.views n ≡ some c.1) j_is c.2) at in
-    off (sym idle' ∙ (ap (λ (u : View). u.holding) (sym w_is) ∙ c.3))))
+    let w_is : c.1 ≡ v = cc (at, c.2, j_is) in cc (idle', w_is, c.3)))
     k.state)
     (λ miss. (
       v,
       keeps,
       tt,
-      subst IsBankTable (λ i. record {
-        words = (k.words ∙ sym words') i;
-        homes = s.homes;
-        views = sym (set_again s.views id v at) i;
-      }) k,
+      rw (set_again s.views id v at, words', ← k.words) k,
       (λ t' is. inr ((λ e. miss (e ∙ ap (λ n. n % 2 ^ 64) (ap value (sym is ∙ mine)))), refl)),
     ))
 
@@ -212,16 +200,12 @@ releases slots id m d has_d held mine known s k wide at small =
     ⊎_elim (λ (a : get_elem? k.history i ≡ some x). saw i x a b)
     (λ (a : (i ≡ len) × (e ≡ x)).
     absurd (ne (k.seats.apart (last_drawn_number v) j id u v there at
-    (sub (last_drawn_number v)
-    (subst (λ (y : Entry). is_among y.seat c ≡ true) (sym a.1) b)) mine)))
+    (sub (last_drawn_number v) (cc (a.1, b))) mine)))
     (at_end k.history e x i at') in
     let k' : IsBankTable (stepped s 1 ((get_or s.words 1 0 + 1) % 2 ^ 64) id m.1 w gives) = record {
       history = history';
       drawn = k.drawn;
-      words = ap (λ ws. set ws 1 ((get_or ws 1 0 + 1) % 2 ^ 64)) k.words
-          ∙ ap (λ n. (k.drawn % 2 ^ 64) ∷ n ∷ [])
-          (mod-add-mod len (2 ^ 64) 1
-          ∙ ap (λ n. n % 2 ^ 64) (let h : len + 1 ≡ length history' = omega arith in h));
+      words = rw (k.words, mod-add-mod len (2 ^ 64) 1, add-one len, len');
       out = omega (arith, total_set draws_of s.views id v w at, ap one_if hold.0, k.out);
       turn = λ n. only_keep (λ (u : View). u.ticket ≡ Some n) s.views id v w at (k.turn n)
           (λ is. absurd (none_some n is));
@@ -229,8 +213,7 @@ releases slots id m d has_d held mine known s k wide at small =
           (λ i x there. ⊎_elim
           (λ (a : get_elem? k.history i ≡ some x). some_set (λ (u : View). Carries u x.seat)
           s.views id v w at (λ c. c) (k.seats.called i x a))
-          (λ (a : (i ≡ len) × (e ≡ x)).
-          (id, w, here, subst (λ (y : Entry). Carries w y.seat) a.1 mine))
+          (λ (a : (i ≡ len) × (e ≡ x)). (id, w, here, cc (a.1, mine)))
           (at_end k.history e x i there))
           (id, w, here, seen_is);
       each = each_set (λ j u. FitsHistory history' k.drawn u) s.views id w
@@ -240,7 +223,7 @@ releases slots id m d has_d held mine known s k wide at small =
             waits = λ t is. let b = g.waits t is in (
               dite (ℕ_discrete t len) (λ same.
                   absurd (ne (k.turn len j id u v there at (is ∙ ap Some same) hold.0)))
-                  (λ other. let z = b.0 in omega arith),
+                  (λ other. omega (arith, b.0)),
               b.1,
             );
             holds = λ h. absurd (ne (k.turn len j id u v there at (g.holds h).0 hold.0));
@@ -251,14 +234,11 @@ releases slots id m d has_d held mine known s k wide at small =
           })
           (fits_rest history' k.drawn v.share v.carried (after_turn m)
           ([], append-nil (after_turn m) ∙ seen_is)
-          (λ z. absurd (let y : v.share ≡ 0 = z in omega arith))
-          (λ i x there c. subst (λ (l : List Entry). i < length l) (sym seen_is)
-          (within history' i x there)));
+          (λ z. absurd (omega (arith, z)))
+          (λ i x there c. rw seen_is (within history' i x there)));
       state = inl (
         d,
-        ap (put_back s.homes) has_d
-            ∙ ⊎_elim (λ h. ap (λ hs. set hs 0 (some (Some d))) h.1)
-            (λ o. ap (λ hs. set hs 0 (some (Some d))) o.0) k.state,
+        rw has_d (⊎_elim (λ h. rw h.1) (λ o. rw o.0) k.state),
         known ∙ ap genotypes_of seen_is,
       );
     } in (
