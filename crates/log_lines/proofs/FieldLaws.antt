@@ -1,9 +1,8 @@
 -- What is written is read again, and what is read was written so.
-use Rattle.std.proofs.Common.{◌≡◌, ◌≢◌, ℕ, ◌<◌, ◌≤◌, ◌^◌, Bool, true, false, cond, List, [], ◌∷◌, ◌++◌, map, length, Option, Some, None, refl, sym, ap, subst, ◌∙◌, arith, inl, inr, ◌⊎◌, eq-eqb, decimal}
+use Rattle.std.proofs.Common.{◌≡◌, ◌≢◌, ℕ, ◌<◌, ◌≤◌, ◌^◌, Bool, true, false, cond, List, [], ◌∷◌, ◌++◌, map, length, Option, Some, None, refl, sym, ap, ◌∙◌, arith, inl, inr, ◌⊎◌, eq-eqb, decimal}
 use Rattle.std.specs.Prelude.{option_and_then, option_map, ◌==◌}
 use Rattle.std.specs.Str.{bytes_eq}
 use Rattle.std.specs.List.{slice_split, AllByRecursion}
-use Rattle.std.proofs.lemmas.Bool.{cases_Bool}
 use Rattle.std.proofs.lemmas.Bool.Decides.{nat_tests}
 use Rattle.std.proofs.lemmas.Option.{cond_some}
 use Rattle.std.proofs.lemmas.Slice.Eq.{bytes_eq-Decides}
@@ -46,10 +45,7 @@ above_append c (x ∷ a) b p q = (p.0, above_append c a b p.1 q)
 
 -- different texts fail the test
 pub not_equal : (a b : List ℕ) → a ≢ b → bytes_eq a b ≡ false
-not_equal a b ne = elim (cases_Bool (bytes_eq a b)) [
-  | inl same ↦ absurd (ne (grind (arith, same, bytes_eq-Decides a b)))
-  | inr other ↦ other
-]
+not_equal a b ne = grind (arith, ne, bytes_eq-Decides a b)
 
 -- texts that pass the test are the same
 pub same_bytes : (a b : List ℕ) → bytes_eq a b ≡ true → a ≡ b
@@ -120,17 +116,14 @@ module _ {X A : Type 0} (text : A → X) (read : X → Option A) (Fits : A → T
       (items : List A) → each read xs ≡ Some items
       → (map text items ≡ xs) × AllByRecursion Fits items
   each_takes takes [] items is = let e : [] ≡ items = cc in
-      subst (λ (l : List A). (map text l ≡ []) × AllByRecursion Fits l) e (refl, tt)
+      rw (← e) (refl, tt)
   each_takes takes (x ∷ xs) items is =
       let first = some_then (λ a. option_map (λ others. a ∷ others) (each read xs))
       (read x) items is in
       let second = some_map (λ others. first.0 ∷ others) (each read xs) items first.2 in
       let a = takes x first.0 first.1 in
       let b = each_takes takes xs second.0 second.1 in
-      subst (λ (l : List A). (map text l ≡ x ∷ xs) × AllByRecursion Fits l) second.2 (
-        ap (λ (y : X). y ∷ map text second.0) a.0 ∙ ap (λ (ys : List X). x ∷ ys) b.0,
-        (a.1, b.1),
-      )
+      rw (← second.2) (rw (a.0, b.0) refl, (a.1, b.1))
 
 -- ---- letters
 
@@ -174,8 +167,7 @@ letters_law_takes word ls is =
     let got =
     some_then (λ a. given (is_genome_length (length a)) a) (each letter_of_byte word) ls is in
     let passed = cond_some (is_genome_length (length got.0)) got.0 ls got.2 in
-    subst (λ (l : List Letter). (map byte_of l ≡ word) × (is_genome_length (length l) ≡ true))
-    passed.1 (letters_taken word got.0 got.1, passed.0)
+    rw (← passed.1) (letters_taken word got.0 got.1, passed.0)
 
 -- the letters of a genome
 pub letters_law : IsField 44 genome_field
@@ -218,13 +210,10 @@ module _ {A : Type 0} {f : Field A} {c : ℕ} (law : IsField c f) where
         → (text_or sign f a ≡ word) × FitsOr f a
     or_takes word a is = elim (chosen (bytes_eq word (sign ∷ [])) _ _ a is) [
       | inl l ↦
-          let e : None ≡ a = cc in
-          subst (λ (o : Option A). (text_or sign f o ≡ word) × FitsOr f o) e
-          (sym (same_bytes word (sign ∷ []) l.0), tt)
+          let e : None ≡ a = cc in rw (← e) (sym (same_bytes word (sign ∷ []) l.0), tt)
       | inr r ↦
           let some = some_map Some (f.read word) a r.1 in
-          subst (λ (o : Option A). (text_or sign f o ≡ word) × FitsOr f o) some.2
-          (law.takes word some.0 some.1)
+          rw (← some.2) (law.takes word some.0 some.1)
     ]
 
     -- a sign or a value has no byte up to the bound
@@ -245,9 +234,7 @@ module _ {A : Type 0} {f : Field A} {c : ℕ} (law : IsField c f) where
     takes = λ word a is.
         let got = some_then (λ x. given (test x) x) (f.read word) a is in
         let passed = cond_some (test got.0) got.0 a got.2 in
-        let same : got.0 ≡ a = passed.1 in
-        subst (λ (x : A). (f.text x ≡ word) × (f.Fits x × (test x ≡ true))) same
-        (let t = law.takes word got.0 got.1 in (t.0, (t.1, passed.0)));
+        let t = law.takes word got.0 got.1 in rw (← passed.1) (t.0, (t.1, passed.0));
     plain = λ a fits. law.plain a fits.0;
   }
 
@@ -256,10 +243,8 @@ module _ {A : Type 0} {f : Field A} {c : ℕ} (law : IsField c f) where
   -- what is read as the last word was written so
   last_takes : (words : List (List ℕ)) (a : A) → read_last f.read words ≡ Some a
       → ((last f).texts a ≡ words) × f.Fits a
-  last_takes [] a is = absurd cc
-  last_takes (word ∷ []) a is =
-      let t = law.takes word a is in (ap (λ (w : List ℕ). w ∷ []) t.0, t.1)
-  last_takes (word ∷ other ∷ words) a is = absurd cc
+  last_takes (word ∷ []) a is = let t = law.takes word a is in (rw t.0 refl, t.1)
+  last_takes _ a is = absurd cc
 
   -- a field that ends a row
   pub last_law : IsRow c (last f)
@@ -279,11 +264,7 @@ module _ {A : Type 0} {f : Field A} {c : ℕ} (law : IsField c f) where
         let second = some_map (λ b. (first.0, b)) (r.read words) p first.2 in
         let a = law.takes word first.0 first.1 in
         let b = others.takes words second.0 second.1 in
-        subst (λ (q : A × B). ((f ◂ r).texts q ≡ word ∷ words) × (f ◂ r).Fits q) second.2 (
-          ap (λ (w : List ℕ). w ∷ r.texts second.0) a.0
-              ∙ ap (λ (ws : List (List ℕ)). word ∷ ws) b.0,
-          (a.1, b.1),
-        )
+        rw (← second.2) (rw (a.0, b.0) refl, (a.1, b.1))
 
     -- a field, and the row behind it
     pub row_law : IsRow c (f ◂ r)

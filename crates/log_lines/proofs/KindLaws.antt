@@ -1,5 +1,5 @@
 -- What is written of a field of a log is read again, and what is read was written so.
-use Rattle.std.proofs.Common.{◌≡◌, ℕ, suc, ◌-◌, ◌<◌, List, [], ◌∷◌, ◌++◌, length, get_or, take, Some, None, refl, ap, subst, ◌∙◌, arith, inl, inr, decimal, length-append}
+use Rattle.std.proofs.Common.{◌≡◌, ℕ, suc, ◌-◌, ◌<◌, List, [], ◌∷◌, ◌++◌, length, get_or, take, Some, None, refl, ap, subst, arith, inl, inr, decimal, length-append}
 use Rattle.std.specs.Prelude.{option_map, ◌==◌}
 use Rattle.std.specs.Str.{bytes_eq}
 use Rattle.std.proofs.lemmas.Bool.{eqb-true}
@@ -81,11 +81,8 @@ module _ (numbers : OneNumber) where
       let spelled : byte_of found.0 ≡ byte = byte_of_letter byte found.0 found.1 in
       let number = small_law.takes (take (length rest - 1) rest) got.0 got.1 in
       let whole : decimal got.0 ++ byte_of found.0 ∷ [] ≡ rest =
-      ap (λ (l : List ℕ). l ++ byte_of found.0 ∷ []) number.0
-      ∙ ap (λ (k : ℕ). take (length rest - 1) rest ++ k ∷ []) spelled
-      ∙ split_last rest (omega arith) in
-      subst (λ (l : List ℕ). ChangeIs (mark ∷ l) c) whole
-      (subst (λ (x : Change). ChangeIs (mark ∷ (decimal got.0 ++ byte_of found.0 ∷ [])) x) found.2
+      rw (number.0, spelled) (split_last rest (omega arith)) in
+      rw (← found.2) (subst (λ (l : List ℕ). ChangeIs (mark ∷ l) (make got.0 found.0)) whole
       (written got.0 found.0 number.1))
 
   -- what is read as a place was written so
@@ -94,7 +91,7 @@ module _ (numbers : OneNumber) where
   deletion_takes rest c is =
       let got = some_map Delete (number_of 0 4294967295 rest) c is in
       let t = small_law.takes rest got.0 got.1 in
-      subst (λ x. ChangeIs (100 ∷ rest) x) got.2 (ap (λ (l : List ℕ). 100 ∷ l) t.0, t.1)
+      rw (← got.2) (rw t.0 refl, t.1)
 
   -- a change is read again
   change_again : (c : Change) → FitsChange c → read_change (change_text c) ≡ Some c
