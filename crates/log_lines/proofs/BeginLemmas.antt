@@ -7,7 +7,6 @@ use Rattle.mutations.specs.declared.change.Change.{Change}
 use Rattle.log_lines.specs.declared.reading.Arrival.{Arrival}
 use Rattle.log_lines.specs.declared.reading.Newborn.{Newborn}
 use Rattle.log_lines.specs.declared.reading.Opening.{Opening}
-use Rattle.log_lines.specs.Line.{Line}
 use Rattle.log_lines.specs.Fields.{number, genome_of_word}
 use Rattle.log_lines.specs.Forms.{birth_form, start_form}
 use Rattle.log_lines.specs.Kinds.{small, large, over_field, record_row, side}
@@ -80,19 +79,6 @@ module _ {A B C D E : Type 0} (read : List ℕ → Option A) (row : Left → Opt
   begins_more begins [] = refl
   begins_more begins (word ∷ words) = at_first words (read word) (begins words)
 
-module _ {A B C : Type 0} (row : Left → Option C) (first : Left → Option (A × Left))
-    (behind : Left → Option B) (make : A → B → C) (line : C → Line)
-    (begins : Begins row first behind make) where
-  -- first fields that are not readable
-  none_first : (words : Left) → None ≡ first words → None ≡ option_map line (row words)
-  none_first words none = rw (← begins words, ← none)
-
-  -- first fields that are read, and the row behind them
-  some_first : (words left : Left) (a : A) (found : Option B) → Some (a, left) ≡ first words
-      → found ≡ behind left
-      → option_map line (option_map (make a) found) ≡ option_map line (row words)
-  some_first words left a found some is = rw (← begins words, ← some, is)
-
 -- ---- a row behind an arrival
 
 -- an update with a cell and who stood there
@@ -112,10 +98,9 @@ arrival_begins : {B : Type 0} (behind : Left → Option B)
     → Begins (read_both small.read (read_both small.read (read_both over_field.read behind)))
     read_arrival behind arrival_fields
 arrival_begins behind =
-    begins_more small.read (read_both small.read (read_both over_field.read behind)) read_place
-    behind place_fields put_arrival arrival_fields (λ a b c. refl)
-    (begins_more small.read (read_both over_field.read behind) (read_first over_field.read) behind
-    pair pair place_fields (λ a b c. refl) (begins_one over_field.read behind))
+    begins_more small.read _ read_place behind place_fields put_arrival _ (λ a b c. refl)
+    (begins_more small.read _ _ behind pair pair _ (λ a b c. refl)
+    (begins_one over_field.read behind))
 
 -- ---- a birth
 
@@ -139,27 +124,20 @@ birth_fields n birth = (n.id, (n.parent, arrival_fields n.arrival birth))
 birth_begins : Begins birth_form.row.read read_newborn record_row.read birth_fields
 birth_begins =
     let behind = record_row.read in
-    let placed = read_both small.read (read_both small.read (read_both over_field.read behind)) in
-    begins_more large.read (read_both large.read placed) read_parent behind parent_fields
-    put_newborn birth_fields (λ a b c. refl)
-    (begins_more large.read placed read_arrival behind arrival_fields pair parent_fields
-    (λ a b c. refl) (arrival_begins behind))
+    begins_more large.read _ read_parent behind parent_fields put_newborn _ (λ a b c. refl)
+    (begins_more large.read _ read_arrival behind arrival_fields pair _ (λ a b c. refl)
+    (arrival_begins behind))
 
 -- no birth, where what stands before the record is not readable
 pub birth_none : (words : Left) → None ≡ read_newborn words → None ≡ read_as birth_form words
-birth_none words none = none_first birth_form.row.read read_newborn record_row.read birth_fields
-    birth_form.line birth_begins words none
+birth_none words none = rw (← birth_begins words, ← none)
 
 -- a birth with the record that is read, or none
 pub birth_some : (words left : Left) (n : Newborn) (birth : Record) (read : Bool)
     → Some (n, left) ≡ read_newborn words → then_some read birth ≡ record_row.read left
     → then_some read (birth_form.line (birth_fields n birth)) ≡ read_as birth_form words
-birth_some words left n birth true some is =
-    some_first birth_form.row.read read_newborn record_row.read birth_fields birth_form.line
-    birth_begins words left n (Some birth) some is
-birth_some words left n birth false some is =
-    some_first birth_form.row.read read_newborn record_row.read birth_fields birth_form.line
-    birth_begins words left n None some is
+birth_some words left n birth true some is = rw (← birth_begins words, ← some, ← is)
+birth_some words left n birth false some is = rw (← birth_begins words, ← some, ← is)
 
 -- ---- a first line
 
@@ -184,23 +162,17 @@ start_fields o genome = (o.version, (o.width, (o.height, (o.cell, genome))))
 start_begins : Begins start_form.row.read read_opening (read_last genome_of_word) start_fields
 start_begins =
     let behind = read_last genome_of_word in
-    let from_height = read_both side.read (read_both small.read behind) in
-    begins_more (number 1 2).read (read_both side.read from_height) read_width behind width_fields
-    put_opening start_fields (λ a b c. refl)
-    (begins_more side.read from_height read_height behind height_fields pair width_fields
-    (λ a b c. refl)
-    (begins_more side.read (read_both small.read behind) (read_first small.read) behind pair pair
-    height_fields (λ a b c. refl) (begins_one small.read behind)))
+    begins_more (number 1 2).read _ read_width behind width_fields put_opening _ (λ a b c. refl)
+    (begins_more side.read _ read_height behind height_fields pair _ (λ a b c. refl)
+    (begins_more side.read _ _ behind pair pair _ (λ a b c. refl)
+    (begins_one small.read behind)))
 
 -- no first line, where what stands before the genome is not readable
 pub start_none : (words : Left) → None ≡ read_opening words → None ≡ read_as start_form words
-start_none words none = none_first start_form.row.read read_opening (read_last genome_of_word)
-    start_fields start_form.line start_begins words none
+start_none words none = rw (← start_begins words, ← none)
 
 -- a first line with the genome that is read, or none
 pub start_some : (words left : Left) (o : Opening) (found : Option (List Letter))
     → Some (o, left) ≡ read_opening words → found ≡ read_last genome_of_word left
     → option_map start_form.line (option_map (start_fields o) found) ≡ read_as start_form words
-start_some words left o found some is =
-    some_first start_form.row.read read_opening (read_last genome_of_word) start_fields
-    start_form.line start_begins words left o found some is
+start_some words left o found some is = rw (← start_begins words, ← some, is)

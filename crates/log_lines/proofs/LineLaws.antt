@@ -1,6 +1,6 @@
 -- A line that is written is read again, and a line that is read was written so: each form of the
 -- table has the laws of `IsForm`, and the rest is said once for all forms.
-use Rattle.std.proofs.Common.{◌≡◌, ℕ, ◌<◌, true, List, [], ◌∷◌, ◌++◌, Some, refl, sym, ap, subst, ◌∙◌, arith, inl, inr}
+use Rattle.std.proofs.Common.{◌≡◌, ℕ, ◌<◌, true, List, [], ◌∷◌, ◌++◌, Some, refl, sym, ap, ◌∙◌, arith, inl, inr}
 use Rattle.std.specs.Prelude.{option_map}
 use Rattle.std.specs.Str.{bytes_eq}
 use Rattle.std.specs.List.{join_with_byte}
@@ -11,7 +11,7 @@ use Rattle.log_lines.specs.Fields.{Field}
 use Rattle.log_lines.specs.Rows.{Row, ◌◂◌}
 use Rattle.log_lines.specs.Line.{Line, Start, Death, Birth, Injected, Cleared, Rate, Count, End}
 use Rattle.log_lines.specs.Kinds.{small, large, side, death_row, arrival_then, record_row}
-use Rattle.log_lines.specs.Forms.{LineForm, FilledForm, filled, forms, filled_form, filled_text, FitsForm, start_form, death_form, birth_form, injected_form, cleared_form, rate_form, count_form, end_form}
+use Rattle.log_lines.specs.Forms.{LineForm, filled, forms, filled_form, filled_text, FitsForm, start_form, death_form, birth_form, injected_form, cleared_form, rate_form, count_form, end_form}
 use Rattle.log_lines.specs.LineText.{HasForm, row_text, words_text}
 use Rattle.log_lines.specs.LineReading.{read_as, read_by, read_words, line_of}
 use Rattle.log_lines.proofs.FieldLaws.{Above, IsField, IsRow, chosen, some_map, number_law, letters_law, last_law, row_law}
@@ -95,9 +95,7 @@ module _ (form : LineForm) (law : IsForm form) where
       → (filled_text (filled_form line) ≡ word ++ words_text words) × FitsForm (filled_form line)
   form_takes word words line same is =
       let some = some_map form.line (form.row.read words) line is in
-      let has : filled_form line ≡ filled form some.0 =
-      ap filled_form (sym some.2) ∙ law.fills some.0 in
-      subst (λ (f : FilledForm). (filled_text f ≡ word ++ words_text words) × FitsForm f) (sym has)
+      rw (← some.2, law.fills some.0)
       (row_takes law.words form.mark word words some.0 same some.1)
 
 -- a line that a table reads has this text
@@ -241,5 +239,5 @@ module _ (numbers : OneNumber) where
   line_plain line fits =
       let has = filled_form line in
       let law = (line_law line).0 in
-      subst (λ (text : List ℕ). Above 10 text) (sym (by_form line).text)
+      rw ((by_form line).text)
       (row_plain law.words has.form.mark has.fields law.high ((by_form line).fits fits))
