@@ -1,7 +1,8 @@
 -- The form that a mark of one byte chooses.
-use Rattle.std.proofs.Common.{◌≡◌, ℕ, Bool, true, false, cond, List, [], ◌∷◌, refl, sym, ap, subst, ◌∙◌, arith, Option, Some, None, option_map}
+use Rattle.std.proofs.Common.{◌≡◌, ℕ, Bool, true, false, cond, List, [], ◌∷◌, ap, subst, ◌∙◌, arith, Option, Some, None, option_map}
 use Rattle.std.specs.Prelude.{◌&&◌, ◌==◌}
 use Rattle.std.proofs.lemmas.Bool.Decides.{nat_tests}
+use Rattle.std.proofs.lemmas.Grind.{common_steps}
 use Rattle.log_lines.specs.Line.{IsNoBirth, Line}
 use Rattle.log_lines.specs.Forms.{LineForm, birth_form, cleared_form, count_form, death_form, end_form, forms, injected_form, plain_forms, rate_form, start_form}
 use Rattle.log_lines.specs.LineReading.{read_as, read_by}
@@ -9,13 +10,12 @@ use Rattle.log_lines.specs.LineReading.{read_as, read_by}
 -- an equal mark chooses the same form
 pub by_mark : (table : List LineForm) (words : List (List ℕ)) (mark n : ℕ) → mark ≡ n
     → read_by table (n ∷ []) words ≡ read_by table (mark ∷ []) words
-by_mark table words mark n is = ap (λ (m : ℕ). read_by table (m ∷ []) words) (sym is)
+by_mark table words mark n is = rw is
 
 -- where a test fails, the other side is chosen
 other_side : (mark n : ℕ) (x o : Option Line) → (mark ≡ n → ⊥)
     → o ≡ cond ((mark == n) && true) x o
-other_side mark n x o apart =
-    let no : (mark == n) ≡ false = grind (arith, nat_tests, apart) in rw no refl
+other_side mark n x o apart = grind (arith, common_steps, nat_tests, apart)
 
 -- what a form reads that tells no birth
 other_read : {A : Type 0} (line : A → Line) (found : Option A)
@@ -58,14 +58,12 @@ module _ (words : List (List ℕ)) (mark : ℕ) where
   pub no_birth : (mark ≡ 66 → ⊥) → IsNoBirth (read_by forms (mark ∷ []) words)
   no_birth birth =
       let last : List LineForm = end_form ∷ [] in
-      let counts : List LineForm = count_form ∷ last in
-      let rates : List LineForm = rate_form ∷ counts in
-      let cleared : List LineForm = cleared_form ∷ rates in
-      let behind : List LineForm = injected_form ∷ cleared in
+      let rates : List LineForm = rate_form ∷ count_form ∷ last in
+      let behind : List LineForm = injected_form ∷ cleared_form ∷ rates in
       none_on start_form (death_form ∷ birth_form ∷ behind) (λ f. tt)
       (none_on death_form (birth_form ∷ behind) (λ f. tt)
       (subst (λ (o : Option Line). IsNoBirth o) (other_mark birth_form behind birth)
-      (none_on injected_form cleared (λ f. tt)
+      (none_on injected_form (cleared_form ∷ rates) (λ f. tt)
       (none_on cleared_form rates (λ f. tt)
-      (none_on rate_form counts (λ f. tt)
+      (none_on rate_form (count_form ∷ last) (λ f. tt)
       (none_on count_form last (λ f. tt) (none_on end_form [] (λ f. tt) tt)))))))

@@ -1,7 +1,8 @@
 -- Reading as many numbers as end a line, one by one.
-use Rattle.std.proofs.Common.{◌≡◌, ℕ, suc, ◌+◌, ◌<◌, true, false, cond, List, [], ◌∷◌, ◌++◌, length, take, set, Option, Some, None, refl, sym, ap, arith, append_assoc, append-nil, length-append, length-set, eq-eqb}
+use Rattle.std.proofs.Common.{◌≡◌, ℕ, ◌+◌, ◌<◌, cond, List, [], ◌∷◌, ◌++◌, length, take, set, Option, Some, None, refl, sym, ap, arith, append_assoc, append-nil, length-append, length-set, eq-eqb}
 use Rattle.std.specs.Prelude.{option_map, ◌==◌}
 use Rattle.std.proofs.lemmas.Bool.Decides.{nat_tests}
+use Rattle.std.proofs.lemmas.Grind.{common_steps}
 use Rattle.std.proofs.lemmas.List.{take_more, take-set-le, get_or-set_same}
 use Rattle.std.proofs.lemmas.Option.{some_pair_parts}
 use Rattle.log_lines.specs.Fields.{each}
@@ -69,15 +70,12 @@ pub first_parts : {A : Type 0} (read : List ℕ → Option A) (left behind : Lis
 first_parts read [] behind a is = absurd cc
 first_parts read (word ∷ words) behind a is =
     let same = same_first words behind a (read word) is in
-    (word, ap (λ (l : List (List ℕ)). word ∷ l) same.0, same.1)
+    (word, rw same.0, same.1)
 
 -- what is left behind the first word is shorter
 pub first_shorter : {A : Type 0} (read : List ℕ → Option A) (left behind : List (List ℕ)) (a : A)
     → Some (a, behind) ≡ read_first read left → length behind < length left
-first_shorter read left behind a is =
-    let longer : length left ≡ suc (length behind) =
-    ap (λ (l : List (List ℕ)). length l) (first_parts read left behind a is).1 in
-    omega (arith, longer)
+first_shorter read left behind a is = rw ((first_parts read left behind a is).1) (omega arith)
 
 -- the first item of those that are left is read
 pub each_first : {A : Type 0} (read : List ℕ → Option A) (front : List A)
@@ -109,9 +107,8 @@ pub read_more : (read : List ℕ → Option ℕ) (words left behind : List (List
     → HasRead read words behind (front ++ n ∷ [])
 read_more read words left behind front n has is =
     let parts = first_parts read left behind n is in
-    let longer : length left ≡ suc (length behind) = ap (λ (l : List (List ℕ)). length l) parts.1 in
     record {
-      count = omega (arith, has.count, longer, length-append front (n ∷ []));
+      count = omega (arith, rw parts.1 at has.count, length-append front (n ∷ []));
       values = rw (parts.1, parts.2, map_more front n (each read behind)) at has.values;
     }
 
@@ -128,21 +125,18 @@ both_read read others words left n a is so =
 pub read_all : (read : List ℕ → Option ℕ) (n : ℕ) (words : List (List ℕ)) (front : List ℕ)
     → HasRead read words [] front → length front ≡ n → Some front ≡ read_times read n words
 read_all read n words front has long =
-    let same : (length words == n) ≡ true =
-    eq-eqb (length words) n (omega (arith, has.count, long)) in
-    rw (same, has.values, append-nil) refl
+    rw (eq-eqb (length words) n (omega (arith, has.count, long)), has.values, append-nil) refl
 
 -- more words than are wanted
 pub read_too_many : (read : List ℕ → Option ℕ) (n : ℕ) (words left : List (List ℕ)) (front : List ℕ)
     → HasRead read words left front → length front ≡ n → 0 < length left
     → None ≡ read_times read n words
 read_too_many read n words left front has long some =
-    let other : (length words == n) ≡ false = grind (arith, nat_tests, has.count) in
-    rw other refl
+    grind (arith, common_steps, nat_tests, has.count)
 
 -- the first word is not the last one
 pub first_not_last : (read : List ℕ → Option ℕ) (words behind : List (List ℕ)) (n : ℕ)
     → Some (n, behind) ≡ read_first read words → 0 < length behind → None ≡ read_last read words
 first_not_last read words [] n is some = absurd (omega (arith, some))
 first_not_last read words (word ∷ behind) n is some =
-    let parts = first_parts read words (word ∷ behind) n is in sym (ap (read_last read) parts.1)
+    rw ((first_parts read words (word ∷ behind) n is).1)
