@@ -1,9 +1,10 @@
 -- The line of an id: itself, its parent, and so on, by a function that gives each id its parent.
-use Rattle.std.proofs.Common.{◌≡◌, ◌⊎◌, inl, inr, ⊎_elim, ◌∙◌, refl, sym, ap, ℕ, zero, suc, ◌+◌, ◌<◌, ◌≤◌, Bool, true, ◌||◌, eqb, List, [], ◌∷◌, Option, Some, None, eq-eqb, eqb-true, arith}
+use Rattle.std.proofs.Common.{◌≡◌, ◌⊎◌, inl, inr, ⊎_elim, ◌∙◌, refl, sym, ap, ℕ, zero, suc, ◌+◌, ◌<◌, ◌≤◌, Bool, true, eqb, List, [], ◌∷◌, Option, Some, None, eq-eqb, eqb-true, arith}
 use Rattle.std.specs.Prelude.{Contains}
 use Rattle.std.specs.List.{list_any}
 use Rattle.std.specs.Option.{option_map_or}
-use Rattle.std.proofs.lemmas.Bool.{or_cases, or_left, or_right}
+use Rattle.std.proofs.lemmas.Bool.{or_cases, or_right}
+use Rattle.std.proofs.lemmas.Grind.{common_steps}
 use Rattle.std.proofs.lemmas.List.Folds.{Any-from_list_any, list_any_at}
 use Rattle.lineage_log.specs.Ancestry.{ancestors_within}
 
@@ -43,10 +44,7 @@ any_found p ids id is passes = list_any_at p ids is.0 id is.1 (ap p is.2 ∙ pas
 module _ (parent_of : ℕ → Option ℕ) (older : Older parent_of) where
   -- the least id has no parent
   no_parent : (id : ℕ) → id ≤ 0 → parent_of id ≡ None
-  no_parent id least = elim (cases_Option (parent_of id)) [
-    | inl none ↦ none
-    | inr some ↦ absurd (omega (arith, older id some.0 some.1))
-  ]
+  no_parent id least = grind (arith, common_steps, older id)
 
   -- more generations than the id has change nothing
   pub enough : (n m id : ℕ) → id ≤ n → id ≤ m
@@ -72,32 +70,21 @@ module _ (parent_of : ℕ → Option ℕ) (older : Older parent_of) where
     )
   ]
 
-  -- an id stands in the line of another where it is that one, or stands in the line of its parent
-  stands_is : (id other : ℕ)
-      → stands parent_of id other
-      ≡ (eqb other id || list_any (λ ancestor. eqb ancestor id)
-      (option_map_or (line parent_of) (parent_of other) []))
-  stands_is id other = ap (list_any (λ ancestor. eqb ancestor id)) (line_is other)
-
   -- an id stands in its own line
   pub stands_itself : (id : ℕ) → stands parent_of id id ≡ true
-  stands_itself id = stands_is id id ∙ or_left (eqb id id) _ (eq-eqb id id refl)
+  stands_itself id = rw (line_is id, eq-eqb id id refl)
 
   -- who stands in the line of a parent stands in the line of its child
   stands_child : (id child above : ℕ) → parent_of child ≡ Some above
       → stands parent_of id above ≡ true → stands parent_of id child ≡ true
-  stands_child id child above is h =
-      stands_is id child
-      ∙ or_right (eqb child id) _
-      (ap (λ (o : Option ℕ). list_any (λ ancestor. eqb ancestor id)
-      (option_map_or (line parent_of) o [])) is ∙ h)
+  stands_child id child above is h = rw (line_is child, is) (or_right (eqb child id) _ h)
 
   -- who stands in a line is its end, or stands in the line of the end's parent
   stands_cases : (id other : ℕ) → stands parent_of id other ≡ true
       → (other ≡ id) ⊎ ((above : ℕ) × (parent_of other ≡ Some above)
       × (stands parent_of id above ≡ true))
   stands_cases id other h =
-      elim (or_cases (eqb other id) _ (sym (stands_is id other) ∙ h)) [
+      elim (or_cases (eqb other id) _ (rw (line_is other) at h)) [
         | inl here ↦ inl (eqb-true other id here)
         | inr behind ↦ elim (cases_Option (parent_of other)) [
           | inl none ↦ absurd (let nobody = rw none at behind in cc)

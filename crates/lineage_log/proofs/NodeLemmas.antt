@@ -1,6 +1,6 @@
 -- The nodes of a tree as a list of entries: what is looked up, and what the list of links shows of
 -- it.
-use Rattle.std.proofs.Common.{◌≡◌, ◌≢◌, ◌⊎◌, inl, inr, ⊎_elim, ◌∙◌, refl, sym, ap, ℕ, suc, ◌+◌, ◌<◌, ◌≤◌, Bool, true, false, cond, eqb, List, [], ◌∷◌, length, Option, Some, None, nat_cmp, eq-eqb, ne_eqb, arith}
+use Rattle.std.proofs.Common.{◌≡◌, ◌≢◌, ◌⊎◌, inl, inr, ⊎_elim, ◌∙◌, refl, sym, ap, ℕ, suc, ◌+◌, ◌<◌, ◌≤◌, true, false, List, [], ◌∷◌, length, Option, Some, None, nat_cmp, eq-eqb, ne_eqb, arith}
 use Rattle.std.specs.Prelude.{◌==◌, if◌then◌else◌, is_some, slice_get}
 use Rattle.std.specs.BTreeMap.{is_at}
 use Rattle.std.specs.Cmp.{nat_cmp_total, unsigned_tied}
@@ -10,7 +10,9 @@ use Rattle.std.specs.Map.{keys_of, values_of}
 use Rattle.std.specs.Option.{option_map, option_map_or, unwrap_or}
 use Rattle.std.specs.Ordering.{eq_by_cmp}
 use Rattle.std.proofs.lemmas.Bool.{cases_eq, cases_lt}
+use Rattle.std.proofs.lemmas.Bool.Decides.{nat_tests}
 use Rattle.std.proofs.lemmas.Cmp.{eq_by_cmp_equiv}
+use Rattle.std.proofs.lemmas.Grind.{common_steps}
 use Rattle.std.proofs.lemmas.List.Sums.{sum_by-cons}
 use Rattle.std.proofs.lemmas.Map.{lookup-none}
 use Rattle.std.proofs.lemmas.Map.Entries.{lookup_from_place, none_past_head, sum_by-remove_entry}
@@ -52,10 +54,8 @@ none_behind e es id rising here =
 -- a node behind the first stands under its id
 pub behind_first : (e : ℕ × NodeValue) (es : List (ℕ × NodeValue)) (id : ℕ) (node : NodeValue)
     → Rises (e ∷ es) → node_at es id ≡ Some node → node_at (e ∷ es) id ≡ Some node
-behind_first e es id node rising is = ⊎_elim
-    (λ here. absurd (let none = none_behind e es id rising here.1 in cc))
-    (λ apart. other_node e es id apart.1 ∙ is)
-    (by_key id e.0)
+behind_first e es id node rising is =
+    grind (arith, common_steps, none_behind e es id rising, is)
 
 -- the link of an id is that of its node
 pub link_there : (nodes : List (ℕ × NodeValue)) (id : ℕ)
@@ -83,9 +83,7 @@ node_told nodes id above is = elim (cases_Option (node_at nodes id)) [
 -- an id has a link where it has a node
 pub is_some_link : (nodes : List (ℕ × NodeValue)) (id : ℕ)
     → is_some (link_of (links_of nodes) id) ≡ is_some (node_at nodes id)
-is_some_link nodes id = ap is_some (link_there nodes id)
-    ∙ (elim (node_at nodes id) as (λ o. is_some (option_map (node_link id) o) ≡ is_some o)
-    [ None ↦ refl | Some node ↦ refl ])
+is_some_link nodes id = rw (link_there nodes id) (grind (arith, common_steps))
 
 -- what is there, as an equation
 pub some_of : {X : Type 0} (found : Option X) → is_some found ≡ true → (x : X) × (found ≡ Some x)
@@ -123,35 +121,26 @@ positive f (e ∷ es) h = ⊎_elim
 abbrev pub one_for : ℕ → Option ℕ → ℕ
 one_for id parent = option_map_or (λ above. if above == id then 1 else 0) parent 0
 
--- one or nothing
-abbrev one_if : Bool → ℕ
-one_if b = cond b 1 0
-
 -- who is counted as a child is one
 is_child : (id : ℕ) (node : NodeValue) → 0 < as_child id node → node.parent ≡ Some id
 is_child id node h = by node.parent h where
   -- a parent for whom one is counted is this id
   by : (parent : Option ℕ) → 0 < one_for id parent → parent ≡ Some id
   by None h = absurd (omega (arith, h))
-  by (Some above) h = ⊎_elim
-      (λ same. ap (λ (n : ℕ). Some n) same)
-      (λ apart. absurd (omega (arith, h, ap one_if (ne_eqb above id apart))))
-      (cases_eq above id)
+  by (Some above) h = grind (arith, common_steps, nat_tests, h)
 
 -- a node that is somebody's child
 pub child_is : (id : ℕ) (node : NodeValue) → node.parent ≡ Some id → as_child id node ≡ 1
-child_is id node is =
-    ap (one_for id) is ∙ ap one_if (eq-eqb id id refl)
+child_is id node is = rw (is, eq-eqb id id refl)
 
 -- a founder is nobody's child
 pub founder_is : (id : ℕ) (node : NodeValue) → node.parent ≡ None → as_child id node ≡ 0
-founder_is id node is = ap (one_for id) is
+founder_is id node is = rw is
 
 -- a node is the child of no other than its parent
 pub child_apart : (id above : ℕ) (node : NodeValue) → node.parent ≡ Some above → above ≢ id
     → as_child id node ≡ 0
-child_apart id above node is apart =
-    ap (one_for id) is ∙ ap one_if (ne_eqb above id apart)
+child_apart id above node is apart = rw (is, ne_eqb above id apart)
 
 -- who has children has one among the nodes
 pub child_exists : (nodes : List (ℕ × NodeValue)) (id : ℕ) → Rises nodes → 0 < children_of nodes id
@@ -179,10 +168,8 @@ child_counts nodes id child node is =
 pub children_few : (nodes : List (ℕ × NodeValue)) (id : ℕ) → children_of nodes id ≤ length nodes
 children_few [] id = omega arith
 children_few (e ∷ es) id =
-    let one : as_child id e.1 ≤ 1 = at_most e.1.parent in
-    omega (arith, sum_by-cons (as_child id) e.1 (values_of es), children_few es id, one)
-  where
-    at_most : (parent : Option ℕ) → one_for id parent ≤ 1
-    at_most None = omega arith
-    at_most (Some above) =
-        elim (eqb above id) as (λ b. one_if b ≤ 1) [ true ↦ omega arith | false ↦ omega arith ]
+    let more = sum_by-cons (as_child id) e.1 (values_of es) in
+    omega (arith, more, children_few es id, at_most e.1.parent) where
+      at_most : (parent : Option ℕ) → one_for id parent ≤ 1
+      at_most None = omega arith
+      at_most (Some above) = grind (arith, common_steps)
