@@ -1,6 +1,6 @@
 -- A good list of lines has a text that is read as that list, and what is read as a list is the text
 -- of a good one.
-use Rattle.std.proofs.Common.{◌≡◌, ℕ, ◌+◌, List, [], ◌∷◌, ◌++◌, Option, Some, None, Result, Ok, Err, refl, sym, ap, subst, ◌∙◌, append_assoc, inl, inr}
+use Rattle.std.proofs.Common.{◌≡◌, ℕ, ◌+◌, List, [], ◌∷◌, Option, Some, None, Result, Ok, Err, refl, sym, subst, ◌∙◌, append_assoc, inl, inr}
 use Rattle.std.specs.Prelude.{◌==◌}
 use Rattle.std.specs.List.{slice_split, onto_first, AllByRecursion, join_with_byte}
 use Rattle.std.proofs.lemmas.Bool.{cases_Bool}
@@ -13,7 +13,7 @@ use Rattle.log_lines.proofs.FieldLaws.{split_first}
 use Rattle.lineage_log.specs.declared.log_stop.LogStop.{LogStop}
 use Rattle.lineage_log.specs.declared.reason.Reason.{Reason}
 use Rattle.lineage_log.specs.Reader.{Reader}
-use Rattle.lineage_log.specs.Order.{LogPlace, Before, Within, After, told, and_on, told_all, IsWhole}
+use Rattle.lineage_log.specs.Order.{LogPlace, Before, After, told, and_on, told_all, IsWhole}
 use Rattle.lineage_log.specs.LogGrammar.{log_end, with_line, after_told, one_piece, pieces_log, log_of, lines_text, IsGoodLog}
 
 -- the pieces between newlines
@@ -54,13 +54,10 @@ pieces_again spell number place (line ∷ lines) r good fits =
     let rest = lines_text lines in
     let step = went_on (told place line) (λ p. told_all p lines) (After r) good in
     let some = cut_some rest in
-    let parts : cut (lines_text (line ∷ lines)) ≡ row_text line ∷ some.0 ∷ some.1 =
-    ap cut (append_assoc (row_text line) (10 ∷ []) rest)
-    ∙ split_first 10 (row_text line) rest (spell.one_line line fits.0)
-    ∙ ap (λ (l : List (List ℕ)). row_text line ∷ l) some.2 in
+    let split = split_first 10 (row_text line) rest (spell.one_line line fits.0) in
     let deep = pieces_again spell (number + 1) step.0 lines r step.2 fits.1 in
-    rw (parts, spell.again line fits.0, step.1)
-    (ap (with_line line) (rw some.2 at deep))
+    rw (append_assoc (row_text line) (10 ∷ []) rest, split, some.2)
+    (rw (spell.again line fits.0, step.1, rw some.2 at deep))
 
 -- the text of the lines of a whole log is read as these lines
 pub log_again : (spell : OneSpelling) (lines : List Line) (r : Reader)
@@ -80,10 +77,9 @@ record IsRead (place : LogPlace) (pieces : List (List ℕ)) (lines : List Line) 
 -- so it is of what is read of the empty piece at the end
 end_read : (number : ℕ) (place : LogPlace) (lines : List Line) → log_end number place ≡ Ok lines
     → IsRead place ([] ∷ []) lines
-end_read number Before lines is = absurd cc
-end_read number (Within r) lines is = absurd cc
 end_read number (After r) lines is = let e : [] ≡ lines = cc in
     rw (← e) (record { text = refl; fits = tt; whole = tt })
+end_read number _ lines is = absurd cc
 
 -- lines that are read with a line in front are that line and the others that are read
 with_is : (line : Line) (others : Result (List Line) LogStop) (lines : List Line)
@@ -121,10 +117,8 @@ pieces_read spell number place (piece ∷ next ∷ pieces) lines is =
     let c = with_is a.0 (others b.0) lines b.2 in
     let deep = pieces_read spell (number + 1) b.0 (next ∷ pieces) c.0 c.1 in
     let t = spell.takes piece a.0 a.1 in
-    subst (λ (l : List Line). IsRead place (piece ∷ next ∷ pieces) l) c.2 (record {
-      text = append_assoc (row_text a.0) (10 ∷ []) (lines_text c.0)
-          ∙ ap (λ (w : List ℕ). w ++ 10 ∷ lines_text c.0) t.0
-          ∙ ap (λ (w : List ℕ). piece ++ 10 ∷ w) deep.text;
+    rw (← c.2) (record {
+      text = rw (append_assoc (row_text a.0) (10 ∷ []) (lines_text c.0), t.0, deep.text);
       fits = (t.1, deep.fits);
       whole = subst (λ (t : Result LogPlace Reason). IsWhole (and_on t (λ p. told_all p c.0)))
           (sym b.1) deep.whole;
@@ -140,14 +134,12 @@ log_takes spell bytes lines is =
 
 -- where the last line has come, there is a reader after it
 pub whole_is : (t : Result LogPlace Reason) → IsWhole t → (r : Reader) × (t ≡ Ok (After r))
-whole_is (Ok Before) w = absurd w
-whole_is (Ok (Within r)) w = absurd w
 whole_is (Ok (After r)) w = (r, refl)
-whole_is (Err e) w = absurd w
+whole_is _ w = absurd w
 
 -- the text of a good log is read as this log
 pub read_back : (spell : OneSpelling) (bytes : List ℕ) (lines : List Line)
     → lines_text lines ≡ bytes → IsGoodLog lines → log_of bytes ≡ Ok lines
 read_back spell bytes lines text good =
     let r = whole_is (told_all Before lines) good.order in
-    ap log_of (sym text) ∙ log_again spell lines r.0 r.1 good.forms
+    rw (← text) (log_again spell lines r.0 r.1 good.forms)

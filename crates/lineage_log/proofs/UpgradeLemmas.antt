@@ -1,6 +1,6 @@
 -- A good log with version 2 in its first line is a good log: version 2 has all that version 1 has.
-use Rattle.std.proofs.Common.{◌≡◌, ℕ, ◌+◌, Bool, true, false, List, [], ◌∷◌, Option, Some, None, Result, Ok, Err, length, refl, sym, ap, subst, arith}
-use Rattle.std.specs.Prelude.{◌==◌, ◌&&◌, ◌*◌, if◌then◌else◌, nat_lt, slice_get}
+use Rattle.std.proofs.Common.{◌≡◌, ℕ, ◌+◌, Bool, true, false, List, [], ◌∷◌, Option, Some, None, Result, Ok, Err, length, refl, ap, arith}
+use Rattle.std.specs.Prelude.{◌==◌, ◌&&◌, ◌*◌, if◌then◌else◌, slice_get}
 use Rattle.instruction_set.specs.declared.letter.Letter.{Letter}
 use Rattle.mutations.specs.BirthRecord.{BirthRecord, child_of}
 use Rattle.mutations.specs.declared.stop.ApplyStop.{ApplyStop}
@@ -9,8 +9,8 @@ use Rattle.log_lines.specs.LineText.{HasForm}
 use Rattle.lineage_log.specs.declared.reason.Reason.{Reason}
 use Rattle.lineage_log.specs.declared.reason.Reason.TheVariants.{BadOrder}
 use Rattle.lineage_log.specs.declared.stage.Stage.TheVariants.{Dying, Placing, Happening}
-use Rattle.lineage_log.specs.Slots.{holds, taken}
-use Rattle.lineage_log.specs.Reader.{Reader, may_die, may_be_born, is_quiet, parent_in, reader_with_newcomer, reader_with_death}
+use Rattle.lineage_log.specs.Slots.{holds}
+use Rattle.lineage_log.specs.Reader.{Reader, parent_in, reader_with_newcomer, reader_with_death}
 use Rattle.lineage_log.specs.Order.{LogPlace, Before, Within, After, within_if, opened, at_next_update, with_child, with_parent, told_start, told_death, told_birth, told_injected, told_cleared, told_rate, told_count, told_end, told, told_all, IsWhole}
 use Rattle.lineage_log.specs.LogGrammar.{IsGoodLog}
 use Rattle.lineage_log.specs.Upgrade.{newer, upgraded}
@@ -82,11 +82,9 @@ told_still : (r : Reader) (line : Line) (q : LogPlace) → told (Within r) line 
 unfolding told_death told_birth told_injected told_cleared told_rate told_count told_end
 told_still r (Start version width height cell genome) q is = absurd cc
 told_still r (Death id update cell) q is =
-    if_still ((update == r.due) && may_die r.stage cell
-    && holds (slice_get r.standing cell) (Some id)) (reader_with_death r (Dying cell) cell id) q is
+    if_still _ (reader_with_death r (Dying cell) cell id) q is
 told_still r (Birth id parent update cell over birth) q is =
-    birth_still ((update == r.due) && may_be_born r.stage && (id == length r.people)
-    && holds (slice_get r.standing cell) over) r cell over birth (parent_in r parent) q is
+    birth_still _ r cell over birth (parent_in r parent) q is
 told_still r (Injected id update cell over genome) q is =
     version_still (r.version == 2) (λ same. ((same && (update == r.due)) && (id == length r.people))
     && holds (slice_get r.standing cell) over)
@@ -99,9 +97,8 @@ told_still r (Rate update name ppm) q is =
     version_still (r.version == 2) (λ same. same && (update == r.due))
     (record r { stage = Happening }) q refl is
 told_still r (Count s) q is =
-    if_still ((s.update == r.due) && (s.living == taken r.standing) && (s.births == r.births)
-    && (s.deaths == length r.leaving)) (at_next_update r) q is
-told_still r (End updates) q is = end_still (is_quiet r.stage && (updates + 1 == r.due)) r q is
+    if_still _ (at_next_update r) q is
+told_still r (End updates) q is = end_still _ r q is
 
 -- lines that lead to the end do so in the last version
 whole_still : (p : LogPlace) (lines : List Line) → IsWhole (told_all p lines)
@@ -111,8 +108,7 @@ whole_still (Within r) [] w = absurd w
 whole_still (Within r) (line ∷ lines) w =
     let end = whole_is (told_all (Within r) (line ∷ lines)) w in
     let step = went_on (told (Within r) line) (λ p. told_all p lines) (After end.0) end.1 in
-    let rest : IsWhole (told_all step.0 lines) = subst IsWhole (sym step.2) tt in
-    rw (told_still r line step.0 step.1) (whole_still step.0 lines rest)
+    rw (told_still r line step.0 step.1) (whole_still step.0 lines (rw step.2 tt))
 whole_still (After r) [] w = tt
 whole_still (After r) (line ∷ lines) w = absurd w
 
@@ -120,13 +116,7 @@ whole_still (After r) (line ∷ lines) w = absurd w
 form_still : (line : Line) → HasForm line → HasForm (newer line)
 form_still (Start version width height cell genome) fits =
     ((omega arith, omega arith), fits.1, fits.2, fits.3, fits.4)
-form_still (Death id update cell) fits = fits
-form_still (Birth id parent update cell over birth) fits = fits
-form_still (Injected id update cell over genome) fits = fits
-form_still (Cleared id update cell) fits = fits
-form_still (Rate update name ppm) fits = fits
-form_still (Count stats) fits = fits
-form_still (End updates) fits = fits
+form_still _ fits = fits
 
 -- a whole log that begins with a first line is whole with version 2 in it
 first_still : (version width height cell : ℕ) (genome : List Letter) (lines : List Line)
@@ -137,22 +127,15 @@ first_still version width height cell genome lines w =
     let end = whole_is (told_all Before (Start version width height cell genome ∷ lines)) w in
     let step = went_on (told_start version width height cell genome) (λ p. told_all p lines)
     (After end.0) end.1 in
-    let rest : IsWhole (told_all step.0 lines) = subst IsWhole (sym step.2) tt in
-    rw (if_still (nat_lt cell (width * height)) (opened version (width * height) cell genome) step.0
-    step.1) (whole_still step.0 lines rest)
+    rw (if_still _ (opened version (width * height) cell genome) step.0 step.1)
+    (whole_still step.0 lines (rw step.2 tt))
 
 -- a whole log is whole with version 2 in its first line
 order_still : (line : Line) (lines : List Line) → IsWhole (told_all Before (line ∷ lines))
     → IsWhole (told_all Before (newer line ∷ lines))
 order_still (Start version width height cell genome) lines w =
     first_still version width height cell genome lines w
-order_still (Death id update cell) lines w = w
-order_still (Birth id parent update cell over birth) lines w = w
-order_still (Injected id update cell over genome) lines w = w
-order_still (Cleared id update cell) lines w = w
-order_still (Rate update name ppm) lines w = w
-order_still (Count stats) lines w = w
-order_still (End updates) lines w = w
+order_still _ lines w = absurd w
 
 -- a good log with version 2 in its first line is a good log
 pub upgraded_good : (lines : List Line) → IsGoodLog lines → IsGoodLog (upgraded lines)
