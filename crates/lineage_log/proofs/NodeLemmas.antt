@@ -61,10 +61,8 @@ behind_first e es id node rising is =
 pub link_there : (nodes : List (ℕ × NodeValue)) (id : ℕ)
     → link_of (links_of nodes) id ≡ option_map (node_link id) (node_at nodes id)
 link_there [] id = refl
-link_there (e ∷ es) id = elim (by_key id e.0) [
-  | inl here ↦ rw (eq-eqb e.0 id (sym here.0), here.1) (rw here.0)
-  | inr apart ↦ rw (ne_eqb e.0 id (λ same. apart.0 (sym same)), apart.1) (link_there es id)
-]
+link_there (e ∷ es) id =
+    grind (arith, common_steps, nat_tests, unsigned_tied id e.0, link_there es id)
 
 -- the parent of an id is that of its node
 pub parent_there : (nodes : List (ℕ × NodeValue)) (id : ℕ) (node : NodeValue)
@@ -99,10 +97,8 @@ top_of (e ∷ es) = e.0 + 1 + top_of es
 pub below_top : (nodes : List (ℕ × NodeValue)) (id : ℕ) → is_some (node_at nodes id) ≡ true
     → id < top_of nodes
 below_top [] id is = absurd cc
-below_top (e ∷ es) id is = elim (by_key id e.0) [
-  | inl here ↦ omega (arith, here.0)
-  | inr apart ↦ omega (arith, below_top es id (rw apart.1 at is))
-]
+below_top (e ∷ es) id is =
+    grind (arith, common_steps, nat_tests, unsigned_tied id e.0, below_top es id)
 
 -- ---- children
 
@@ -123,11 +119,7 @@ one_for id parent = option_map_or (λ above. if above == id then 1 else 0) paren
 
 -- who is counted as a child is one
 is_child : (id : ℕ) (node : NodeValue) → 0 < as_child id node → node.parent ≡ Some id
-is_child id node h = by node.parent h where
-  -- a parent for whom one is counted is this id
-  by : (parent : Option ℕ) → 0 < one_for id parent → parent ≡ Some id
-  by None h = absurd (omega (arith, h))
-  by (Some above) h = grind (arith, common_steps, nat_tests, h)
+is_child id node h = grind (arith, common_steps, nat_tests, h)
 
 -- a node that is somebody's child
 pub child_is : (id : ℕ) (node : NodeValue) → node.parent ≡ Some id → as_child id node ≡ 1
@@ -168,8 +160,5 @@ child_counts nodes id child node is =
 pub children_few : (nodes : List (ℕ × NodeValue)) (id : ℕ) → children_of nodes id ≤ length nodes
 children_few [] id = omega arith
 children_few (e ∷ es) id =
-    let more = sum_by-cons (as_child id) e.1 (values_of es) in
-    omega (arith, more, children_few es id, at_most e.1.parent) where
-      at_most : (parent : Option ℕ) → one_for id parent ≤ 1
-      at_most None = omega arith
-      at_most (Some above) = grind (arith, common_steps)
+    let one : as_child id e.1 ≤ 1 = grind (arith, common_steps) in
+    omega (arith, sum_by-cons (as_child id) e.1 (values_of es), children_few es id, one)
