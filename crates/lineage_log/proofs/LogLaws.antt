@@ -107,9 +107,7 @@ piece_is number place (Some line) others lines is = (line, refl, is)
 -- so it is of what is read of any pieces
 pieces_read : (spell : OneSpelling) (number : ℕ) (place : LogPlace) (pieces : List (List ℕ))
     (lines : List Line) → pieces_log number place pieces ≡ Ok lines → IsRead place pieces lines
-pieces_read spell number place [] lines is = absurd cc
 pieces_read spell number place ([] ∷ []) lines is = end_read number place lines is
-pieces_read spell number place ((b ∷ bs) ∷ []) lines is = absurd cc
 pieces_read spell number place (piece ∷ next ∷ pieces) lines is =
     let others = λ (p : LogPlace). pieces_log (number + 1) p (next ∷ pieces) in
     let a = piece_is number place (line_of piece) others lines is in
@@ -123,6 +121,7 @@ pieces_read spell number place (piece ∷ next ∷ pieces) lines is =
       whole = subst (λ (t : Result LogPlace Reason). IsWhole (and_on t (λ p. told_all p c.0)))
           (sym b.1) deep.whole;
     })
+pieces_read spell number place _ lines is = absurd cc
 
 -- bytes that are read as lines are their text, and the lines are a good log
 pub log_takes : (spell : OneSpelling) (bytes : List ℕ) (lines : List Line) → log_of bytes ≡ Ok lines

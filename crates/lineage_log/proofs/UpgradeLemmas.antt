@@ -31,11 +31,17 @@ within_is : (r : Reader) (q : LogPlace) → ◌≡◌ {A = Result LogPlace Reaso
     → ◌≡◌ {A = Result LogPlace Reason} (Ok (Within (up_reader r))) (Ok (up q))
 within_is r q is = ap (λ (p : LogPlace). Ok (up p)) (place_is (Within r) q is)
 
--- a test leads to the same place in the last version
+-- a test leads to the same place in the last version, if what stands behind it does
+behind_test : (test : Bool) (r s : Result LogPlace Reason) (q : LogPlace)
+    → (r ≡ Ok q → s ≡ Ok (up q)) → (if test then r else Err BadOrder) ≡ Ok q
+    → (if test then s else Err BadOrder) ≡ Ok (up q)
+behind_test true r s q behind is = behind is
+behind_test false r s q behind is = absurd cc
+
+-- so does a test of a reader's place
 if_still : (test : Bool) (r : Reader) (q : LogPlace) → within_if test r ≡ Ok q
     → within_if test (up_reader r) ≡ Ok (up q)
-if_still true r q is = within_is r q is
-if_still false r q is = absurd cc
+if_still test r q is = behind_test test _ _ q (within_is r q) is
 
 -- so does a test that fails without the right version, which is right there
 version_still : (same : Bool) (test : Bool → Bool) (r : Reader) (q : LogPlace)
@@ -60,22 +66,6 @@ parent_still r cell over birth None q is = absurd cc
 parent_still r cell over birth (Some letters) q is =
     child_still r cell over (child_of letters birth) q is
 
--- so does a birth with its test
-birth_still : (test : Bool) (r : Reader) (cell : ℕ) (over : Option ℕ) (birth : BirthRecord)
-    (parent : Option (List Letter)) (q : LogPlace)
-    → (if test then with_parent r cell over birth parent else Err BadOrder) ≡ Ok q
-    → (if test then with_parent (up_reader r) cell over birth parent else Err BadOrder) ≡ Ok (up q)
-birth_still true r cell over birth parent q is = parent_still r cell over birth parent q is
-birth_still false r cell over birth parent q is = absurd cc
-
--- so does the last line with its test
-end_still : (test : Bool) (r : Reader) (q : LogPlace)
-    → ◌≡◌ {A = Result LogPlace Reason} (if test then Ok (After r) else Err BadOrder) (Ok q)
-    → ◌≡◌ {A = Result LogPlace Reason} (if test then Ok (After (up_reader r)) else Err BadOrder)
-    (Ok (up q))
-end_still true r q is = ap (λ (p : LogPlace). Ok (up p)) (place_is (After r) q is)
-end_still false r q is = absurd cc
-
 -- so does each line within a log
 told_still : (r : Reader) (line : Line) (q : LogPlace) → told (Within r) line ≡ Ok q
     → told (Within (up_reader r)) line ≡ Ok (up q)
@@ -84,7 +74,7 @@ told_still r (Start version width height cell genome) q is = absurd cc
 told_still r (Death id update cell) q is =
     if_still _ (reader_with_death r (Dying cell) cell id) q is
 told_still r (Birth id parent update cell over birth) q is =
-    birth_still _ r cell over birth (parent_in r parent) q is
+    behind_test _ _ _ q (parent_still r cell over birth (parent_in r parent) q) is
 told_still r (Injected id update cell over genome) q is =
     version_still (r.version == 2) (λ same. ((same && (update == r.due)) && (id == length r.people))
     && holds (slice_get r.standing cell) over)
@@ -98,19 +88,20 @@ told_still r (Rate update name ppm) q is =
     (record r { stage = Happening }) q refl is
 told_still r (Count s) q is =
     if_still _ (at_next_update r) q is
-told_still r (End updates) q is = end_still _ r q is
+told_still r (End updates) q is =
+    behind_test _ (Ok (After r)) (Ok (After (up_reader r))) q
+    (λ e. ap (λ (p : LogPlace). Ok (up p)) (place_is (After r) q e)) is
 
 -- lines that lead to the end do so in the last version
 whole_still : (p : LogPlace) (lines : List Line) → IsWhole (told_all p lines)
     → IsWhole (told_all (up p) lines)
 whole_still Before lines w = w
-whole_still (Within r) [] w = absurd w
 whole_still (Within r) (line ∷ lines) w =
     let end = whole_is (told_all (Within r) (line ∷ lines)) w in
     let step = went_on (told (Within r) line) (λ p. told_all p lines) (After end.0) end.1 in
     rw (told_still r line step.0 step.1) (whole_still step.0 lines (rw step.2 tt))
 whole_still (After r) [] w = tt
-whole_still (After r) (line ∷ lines) w = absurd w
+whole_still _ _ w = absurd w
 
 -- a line that has a form has one with version 2
 form_still : (line : Line) → HasForm line → HasForm (newer line)
