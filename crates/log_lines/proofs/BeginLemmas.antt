@@ -1,7 +1,8 @@
 -- Reading a row in two steps: its first fields, and then the row behind them.
-use Rattle.std.proofs.Common.{◌≡◌, ℕ, Bool, true, false, List, [], ◌∷◌, Option, Some, None, refl, ap, ◌∙◌}
+use Rattle.std.proofs.Common.{arith, ◌≡◌, ℕ, Bool, true, false, List, [], ◌∷◌, Option, Some, None, refl}
 use Rattle.std.specs.Bool.{then_some}
 use Rattle.std.specs.Prelude.{option_and_then, option_map}
+use Rattle.std.proofs.lemmas.Grind.{common_steps}
 use Rattle.instruction_set.specs.declared.letter.Letter.{Letter}
 use Rattle.mutations.specs.declared.change.Change.{Change}
 use Rattle.log_lines.specs.declared.reading.Arrival.{Arrival}
@@ -37,8 +38,7 @@ Begins row first behind make = (words : Left) → with_behind make behind (first
 one_field : {A B : Type 0} (behind : Left → Option B) (words : Left) (found : Option A)
     → with_behind pair behind (option_map (λ a. (a, words)) found)
     ≡ option_and_then (λ a. option_map (λ b. (a, b)) (behind words)) found
-one_field behind words None = refl
-one_field behind words (Some a) = refl
+one_field behind words found = grind (arith, common_steps)
 
 -- a row begins with its first field
 begins_one : {A B : Type 0} (read : List ℕ → Option A) (behind : Left → Option B)
@@ -50,18 +50,11 @@ module _ {A B C D E : Type 0} (read : List ℕ → Option A) (row : Left → Opt
     (first : Left → Option (B × Left)) (behind : Left → Option C) (make : B → C → D)
     (put : A → B → E) (all : E → C → A × D)
     (is : (a : A) (b : B) (c : C) → all (put a b) c ≡ pair a (make b c)) where
-  -- the row behind was read, or not
-  at_last : (a : A) (b : B) (found : Option C)
-      → option_map (all (put a b)) found ≡ option_map (pair a) (option_map (make b) found)
-  at_last a b None = refl
-  at_last a b (Some c) = ap (λ (p : A × D). Some p) (is a b c)
-
   -- the first fields behind one were read, or not
   at_next : (a : A) (found : Option (B × Left))
       → with_behind all behind (option_map (λ (b, left). (put a b, left)) found)
       ≡ option_map (pair a) (with_behind make behind found)
-  at_next a None = refl
-  at_next a (Some p) = at_last a p.0 (behind p.1)
+  at_next a found = grind (arith, common_steps, is a)
 
   -- the field in front was read, or not
   at_first : (words : Left) (found : Option A) → with_behind make behind (first words) ≡ row words
@@ -69,9 +62,8 @@ module _ {A B C D E : Type 0} (read : List ℕ → Option A) (row : Left → Opt
       (option_and_then (λ (a, left). option_map (λ (b, rest). (put a b, rest)) (first left))
       (option_map (λ a. (a, words)) found))
       ≡ option_and_then (λ a. option_map (λ d. (a, d)) (row words)) found
-  at_first words None begins = refl
-  at_first words (Some a) begins =
-      at_next a (first words) ∙ ap (λ (o : Option D). option_map (pair a) o) begins
+  at_first words found begins =
+      grind (arith, common_steps, begins, λ (a : A). at_next a (first words))
 
   -- one field more in front
   begins_more : Begins row first behind make

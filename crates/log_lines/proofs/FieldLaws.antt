@@ -4,6 +4,7 @@ use Rattle.std.specs.Prelude.{option_and_then, option_map, ◌==◌}
 use Rattle.std.specs.Str.{bytes_eq}
 use Rattle.std.specs.List.{slice_split, AllByRecursion}
 use Rattle.std.proofs.lemmas.Bool.Decides.{nat_tests}
+use Rattle.std.proofs.lemmas.Grind.{common_steps}
 use Rattle.std.proofs.lemmas.Option.{cond_some}
 use Rattle.std.proofs.lemmas.Slice.Eq.{bytes_eq-Decides}
 use Rattle.instruction_set.specs.declared.letter.Letter.{Letter}
@@ -54,17 +55,14 @@ same_bytes a b t = grind (arith, t, bytes_eq-Decides a b)
 -- a word without the byte is one piece
 pub split_one : (c : ℕ) (word : List ℕ) → Above c word → slice_split (λ b. b == c) word ≡ word ∷ []
 split_one c [] all = refl
-split_one c (b ∷ bs) all =
-    let other : (b == c) ≡ false = grind (arith, nat_tests, all.0) in
-    rw (other, split_one c bs all.1) refl
+split_one c (b ∷ bs) all = grind (arith, common_steps, nat_tests, all.0, split_one c bs all.1)
 
 -- the piece before the first such byte
 pub split_first : (c : ℕ) (word rest : List ℕ) → Above c word
     → slice_split (λ b. b == c) (word ++ c ∷ rest) ≡ word ∷ slice_split (λ b. b == c) rest
 split_first c [] rest all = rw (eq-eqb c c refl) refl
 split_first c (b ∷ bs) rest all =
-    let other : (b == c) ≡ false = grind (arith, nat_tests, all.0) in
-    rw (other, split_first c bs rest all.1) refl
+    grind (arith, common_steps, nat_tests, all.0, split_first c bs rest all.1)
 
 -- ---- numbers
 

@@ -21,15 +21,13 @@ read_times read n words = cond (length words == n) (each read words) None
 
 -- nothing in front
 pub same_map : {A : Type 0} (o : Option (List A)) → o ≡ option_map (λ others. [] ++ others) o
-same_map None = refl
-same_map (Some l) = refl
+same_map o = grind (arith, common_steps)
 
 -- one item more in front
 pub map_more : {A : Type 0} (front : List A) (a : A) (o : Option (List A))
     → option_map (λ others. front ++ others) (option_map (λ others. a ∷ others) o)
     ≡ option_map (λ others. (front ++ a ∷ []) ++ others) o
-map_more front a None = refl
-map_more front a (Some l) = ap Some (sym (append_assoc front (a ∷ []) l))
+map_more front a o = grind (arith, common_steps, append_assoc front (a ∷ []))
 
 -- one item more is read
 pub each_more : {X A : Type 0} (read : X → Option A) (front : List A) (x : X) (a : A) (xs : List X)
