@@ -96,9 +96,9 @@ pub known_after : OneList → (before after : Catalog) (m : Seated) (history : L
     → genomes_in after ≡ genotypes_of
     (m.0.seen ++ entry (last_drawn_number m.0) (last_call after) ∷ [])
 known_after one_list before after m history served known seen =
-    served ∙ (ap (λ genomes. with_call genomes (last_call after))
-    (known ∙ ap genotypes_of (sym seen))
-    ∙ sym (genotypes_of_push one_list m.0.seen (entry (last_drawn_number m.0) (last_call after))))
+    let push = genotypes_of_push one_list m.0.seen (entry (last_drawn_number m.0) (last_call after))
+    in
+    cc (served, known, seen, push)
 
 -- a history begins with what was seen before a call
 pub MakesCall-begins : (before after : SeatValue) (call : Call) → MakesCall before after call

@@ -27,8 +27,7 @@ value (Some t) = t
 
 -- a test that does not hold is false
 pub not_so : (b : Bool) → (b ≡ true → ⊥) → b ≡ false
-not_so true nay = absurd (nay refl)
-not_so false nay = refl
+not_so b nay = grind (arith, nay)
 
 -- false isn't true
 pub off : false ≡ true → ⊥

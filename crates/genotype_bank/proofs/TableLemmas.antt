@@ -1,17 +1,18 @@
 -- What the rule says of one seat.
-use Rattle.std.proofs.Common.{◌≡◌, ◌≢◌, ℕ, ◌<◌, ◌≤◌, List, [], set, ap, ◌∙◌, subst, arith, Option, Some, None}
+use Rattle.std.proofs.Common.{◌≡◌, ◌≢◌, ℕ, ◌<◌, ◌≤◌, List, [], set, ap, ◌∙◌, subst, arith, Option, Some}
 use mathlib.Core.Option.{some}
 use mathlib.Core.Logic.{dite}
 use mathlib.Core.List.{IsPrefix}
 use native.Mathlib.Decide.{ℕ_discrete}
 use lib.ListN.{get_elem?}
+use Rattle.std.proofs.lemmas.Grind.{common_steps}
 use Rattle.atomic_table.proofs.Lists.{set_else}
 use Rattle.atomic_table.specs.Table.{State}
 use Rattle.genotype_bank.specs.declared.catalog.Catalog.{Catalog}
 use Rattle.genotype_bank.specs.declared.view.View.{View}
 use Rattle.genotype_bank.specs.declared.view.Entry.{Entry}
 use Rattle.genotype_bank.specs.Seats.{all_shares}
-use Rattle.genotype_bank.specs.Views.{idle_view, spent_view, total, seat_share, draws_of, one_if, Carries, FitsHistory, SawOwn}
+use Rattle.genotype_bank.specs.Views.{idle_view, spent_view, total, seat_share, draws_of, Carries, FitsHistory, SawOwn}
 use Rattle.genotype_bank.specs.BankTable.{IsBankTable}
 use Rattle.genotype_bank.proofs.ViewLemmas.{total_set, total_le, total_ge}
 use Rattle.genotype_bank.proofs.HistoryLemmas.{none_some, off, nothing_there, pre_whole}
@@ -64,11 +65,7 @@ draws_below s k = omega (arith, total_le draws_of seat_share s.views one, k.seat
     one : (j : ℕ) (v : View) → get_elem? s.views j ≡ some v → draws_of v ≤ seat_share v
     one j v at = dite (ℕ_discrete v.share 0)
         (λ e. omega (arith, ap draws_of ((k.each j v at).spent e)))
-        (λ ne. omega (arith, at_most v.ticket))
-      where
-        at_most : (o : Option ℕ) → one_if o ≤ 1
-        at_most None = omega arith
-        at_most (Some t) = omega arith
+        (λ ne. grind (arith, common_steps))
 
 -- a seat with a ticket is not spent
 pub drawn_lives : (history : List Entry) (drawn : ℕ) (v : View) (t : ℕ)

@@ -108,8 +108,7 @@ serves slots id m t mine idle' nothing s k wide at small =
     dite (ℕ_discrete r (t % 2 ^ 64))
     (λ hit.
     let same : len ≡ t = one_turn len t (2 ^ 64) (f.waits t mine).0
-    (let b = (f.waits t mine).1 in let o = k.out in let d = draws_below s k in omega arith)
-    (sym r_is ∙ hit) in
+    (omega (arith, (f.waits t mine).1, k.out, draws_below s k)) (sym r_is ∙ hit) in
     let w = at_turn v k.history in
     let pos = drawn_lives k.history k.drawn v t f mine in
     let mine' : v.ticket ≡ Some len = mine ∙ ap Some (sym same) in
@@ -134,7 +133,7 @@ serves slots id m t mine idle' nothing s k wide at small =
             each_set (λ j u. FitsHistory k.history k.drawn u) s.views id w (λ j u _ e. k.each j u e)
             record {
               begins = ([], append-nil k.history);
-              spent = λ e. absurd (let z : v.share ≡ 0 = e in omega arith);
+              spent = λ e. absurd (omega (arith, e));
               waits = f.waits;
               holds = λ _. (mine', refl);
               saw = λ i e there c. within k.history i e there;
