@@ -52,23 +52,13 @@ module _ (parent_of : ℕ → Option ℕ) (older : Older parent_of) where
   enough zero zero id a b = refl
   enough zero (suc m) id a b = rw (no_parent id a)
   enough (suc n) zero id a b = rw (no_parent id b)
-  enough (suc n) (suc m) id a b = elim (cases_Option (parent_of id)) [
-    | inl none ↦ rw none
-    | inr some ↦
-        let low = older id some.0 some.1 in
-        rw (some.1, enough n m some.0 (omega (arith, low)) (omega (arith, low)))
-  ]
+  enough (suc n) (suc m) id a b = grind (arith, common_steps, older id, enough n m)
 
   -- the line of an id is itself, and the line of its parent
   pub line_is : (id : ℕ) → line parent_of id ≡ id ∷ option_map_or (line parent_of) (parent_of id) []
   line_is zero = rw (no_parent zero (omega arith))
-  line_is (suc n) = elim (cases_Option (parent_of (suc n))) [
-    | inl none ↦ rw none
-    | inr some ↦ rw (
-      some.1,
-      enough n some.0 some.0 (omega (arith, older (suc n) some.0 some.1)) (omega arith),
-    )
-  ]
+  line_is (suc n) =
+      grind (arith, common_steps, older (suc n), λ (above : ℕ). enough n above above)
 
   -- an id stands in its own line
   pub stands_itself : (id : ℕ) → stands parent_of id id ≡ true
@@ -138,10 +128,8 @@ module _ (before after : ℕ → Option ℕ) (has : ℕ → Bool) (older : Older
   pub same_ancestors : (n id : ℕ) → has id ≡ true
       → ancestors_within n after id ≡ ancestors_within n before id
   same_ancestors zero id is = refl
-  same_ancestors (suc n) id is = rw (left.same id is) (elim (cases_Option (before id)) [
-    | inl none ↦ rw none
-    | inr some ↦ rw (some.1, same_ancestors n some.0 (left.closed id some.0 is some.1))
-  ])
+  same_ancestors (suc n) id is =
+      grind (arith, common_steps, left.same id is, left.closed id, same_ancestors n)
 
   -- who is kept by some of them is one of them
   pub kept_left : (living : List ℕ) (id : ℕ) → ((one : ℕ) → Contains living one → has one ≡ true)
