@@ -56,12 +56,9 @@ module _ (numbers : OneNumber) where
   lettered_again make at letter fits =
       let n : length (decimal at ++ byte_of letter ∷ []) - 1 ≡ length (decimal at) =
       omega (arith, length-append (decimal at) (byte_of letter ∷ [])) in
-      let front : take (length (decimal at)) (decimal at ++ byte_of letter ∷ []) ≡ decimal at =
-      take-append_seam (decimal at) (byte_of letter ∷ []) in
-      let end : get_or (decimal at ++ byte_of letter ∷ []) (length (decimal at)) 0
-      ≡ byte_of letter = get_or-append_seam (decimal at) (byte_of letter) [] 0 in
-      let number : number_of 0 4294967295 (decimal at) ≡ Some at = small_law.again at fits in
-      rw (n, front, end, number, letter_of_byte-byte_of letter) refl
+      let front = take-append_seam (decimal at) (byte_of letter ∷ []) in
+      let end = get_or-append_seam (decimal at) (byte_of letter) [] 0 in
+      rw (n, front, end, small_law.again at fits, letter_of_byte-byte_of letter) refl
 
   -- what is read as a place and a letter was written so
   lettered_takes : (make : ToChange) (mark : ℕ) (rest : List ℕ) (c : Change)
@@ -69,9 +66,7 @@ module _ (numbers : OneNumber) where
       → ChangeIs (mark ∷ (decimal at ++ byte_of letter ∷ [])) (make at letter))
       → read_lettered make rest ≡ Some c → ChangeIs (mark ∷ rest) c
   lettered_takes make mark [] c written is =
-      let got = some_then (λ at. option_map (λ letter. make at letter) (letter_of_byte 0))
-      (number_of 0 4294967295 []) c is in
-      let none : number_of 0 4294967295 [] ≡ None = numbers.no_digits 0 4294967295 in absurd cc
+      absurd (let none = rw (numbers.no_digits 0 4294967295) at is in cc)
   lettered_takes make mark (b ∷ bs) c written is =
       let rest = b ∷ bs in
       let byte = get_or rest (length rest - 1) 0 in
