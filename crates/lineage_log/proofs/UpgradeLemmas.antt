@@ -1,17 +1,16 @@
 -- A good log with version 2 in its first line is a good log: version 2 has all that version 1 has.
-use Rattle.std.proofs.Common.{◌≡◌, ℕ, ◌+◌, Bool, true, false, List, [], ◌∷◌, Option, Some, None, Result, Ok, Err, length, refl, ap, arith}
+use Rattle.std.proofs.Common.{◌≡◌, ℕ, Bool, true, false, List, [], ◌∷◌, Option, Some, None, Result, Ok, Err, length, refl, ap, arith}
 use Rattle.std.specs.Prelude.{◌==◌, ◌&&◌, ◌*◌, if◌then◌else◌, slice_get}
 use Rattle.instruction_set.specs.declared.letter.Letter.{Letter}
-use Rattle.mutations.specs.BirthRecord.{BirthRecord, child_of}
+use Rattle.mutations.specs.BirthRecord.{BirthRecord}
 use Rattle.mutations.specs.declared.stop.ApplyStop.{ApplyStop}
 use Rattle.log_lines.specs.Line.{Line, Start, Death, Birth, Injected, Cleared, Rate, Count, End}
 use Rattle.log_lines.specs.LineText.{HasForm}
 use Rattle.lineage_log.specs.declared.reason.Reason.{Reason}
 use Rattle.lineage_log.specs.declared.reason.Reason.TheVariants.{BadOrder}
-use Rattle.lineage_log.specs.declared.stage.Stage.TheVariants.{Dying, Placing, Happening}
 use Rattle.lineage_log.specs.Slots.{holds}
-use Rattle.lineage_log.specs.Reader.{Reader, parent_in, reader_with_newcomer, reader_with_death}
-use Rattle.lineage_log.specs.Order.{LogPlace, Before, Within, After, within_if, opened, at_next_update, with_child, with_parent, told_start, told_death, told_birth, told_injected, told_cleared, told_rate, told_count, told_end, told, told_all, IsWhole}
+use Rattle.lineage_log.specs.Reader.{Reader, parent_in}
+use Rattle.lineage_log.specs.Order.{LogPlace, Before, Within, After, within_if, opened, with_child, with_parent, told_start, told_death, told_birth, told_injected, told_cleared, told_rate, told_count, told_end, told, told_all, IsWhole}
 use Rattle.lineage_log.specs.LogGrammar.{IsGoodLog}
 use Rattle.lineage_log.specs.Upgrade.{newer, upgraded}
 use Rattle.lineage_log.proofs.LogLaws.{went_on, whole_is, place_is}
@@ -54,8 +53,7 @@ version_still false test r q fails is = absurd (let e = rw fails at is in cc)
 child_still : (r : Reader) (cell : ℕ) (over : Option ℕ) (child : Result (List Letter) ApplyStop)
     (q : LogPlace) → with_child r cell over child ≡ Ok q
     → with_child (up_reader r) cell over child ≡ Ok (up q)
-child_still r cell over (Ok child) q is =
-    within_is (reader_with_newcomer r Placing cell over child (r.births + 1)) q is
+child_still r cell over (Ok child) q is = within_is _ q is
 child_still r cell over (Err stop) q is = absurd cc
 
 -- so does a birth, by the parent that is found
@@ -63,33 +61,26 @@ parent_still : (r : Reader) (cell : ℕ) (over : Option ℕ) (birth : BirthRecor
     (parent : Option (List Letter)) (q : LogPlace) → with_parent r cell over birth parent ≡ Ok q
     → with_parent (up_reader r) cell over birth parent ≡ Ok (up q)
 parent_still r cell over birth None q is = absurd cc
-parent_still r cell over birth (Some letters) q is =
-    child_still r cell over (child_of letters birth) q is
+parent_still r cell over birth (Some letters) q is = child_still r cell over _ q is
 
 -- so does each line within a log
 told_still : (r : Reader) (line : Line) (q : LogPlace) → told (Within r) line ≡ Ok q
     → told (Within (up_reader r)) line ≡ Ok (up q)
 unfolding told_death told_birth told_injected told_cleared told_rate told_count told_end
 told_still r (Start version width height cell genome) q is = absurd cc
-told_still r (Death id update cell) q is =
-    if_still _ (reader_with_death r (Dying cell) cell id) q is
+told_still r (Death id update cell) q is = if_still _ _ q is
 told_still r (Birth id parent update cell over birth) q is =
     behind_test _ _ _ q (parent_still r cell over birth (parent_in r parent) q) is
 told_still r (Injected id update cell over genome) q is =
-    version_still (r.version == 2) (λ same. ((same && (update == r.due)) && (id == length r.people))
-    && holds (slice_get r.standing cell) over)
-    (reader_with_newcomer r Happening cell over genome r.births) q refl is
+    version_still _ (λ same. ((same && (update == r.due)) && (id == length r.people))
+    && holds (slice_get r.standing cell) over) _ q refl is
 told_still r (Cleared id update cell) q is =
-    version_still (r.version == 2) (λ same. (same && (update == r.due))
-    && holds (slice_get r.standing cell) (Some id)) (reader_with_death r Happening cell id) q refl
-    is
+    version_still _ (λ same. (same && (update == r.due))
+    && holds (slice_get r.standing cell) (Some id)) _ q refl is
 told_still r (Rate update name ppm) q is =
-    version_still (r.version == 2) (λ same. same && (update == r.due))
-    (record r { stage = Happening }) q refl is
-told_still r (Count s) q is =
-    if_still _ (at_next_update r) q is
-told_still r (End updates) q is =
-    behind_test _ (Ok (After r)) (Ok (After (up_reader r))) q
+    version_still _ (λ same. same && (update == r.due)) _ q refl is
+told_still r (Count s) q is = if_still _ _ q is
+told_still r (End updates) q is = behind_test _ (Ok (After r)) _ q
     (λ e. ap (λ (p : LogPlace). Ok (up p)) (place_is (After r) q e)) is
 
 -- lines that lead to the end do so in the last version
