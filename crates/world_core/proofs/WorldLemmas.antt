@@ -1,5 +1,5 @@
 -- The world after an update is again the world of its configuration.
-use Rattle.std.proofs.Common.{◌≡◌, ◌∙◌, refl, sym, ap, subst, ℕ, suc, ◌+◌, ◌-◌, ◌<◌, List, [], Result, IfOk, drop, length, arith}
+use Rattle.std.proofs.Common.{◌≡◌, ◌∙◌, refl, sym, ap, ℕ, ◌+◌, ◌-◌, ◌<◌, List, [], Result, IfOk, drop, length, add-one, arith, rules}
 use Rattle.std.proofs.lemmas.Result.{IfOk-at_ok}
 use Rattle.lineage_log.specs.Links.{Link}
 use Rattle.lineage_log.specs.Trees.{TreeValue}
@@ -13,7 +13,7 @@ use Rattle.world_rules.specs.Update.{next_scene, next_world, world_of}
 use Rattle.world_rules.specs.WorldRun.{world_after}
 use Rattle.world_rules.specs.Statistics.{next_stats, stats_of}
 use Rattle.world_rules.specs.LogText.{update_lines, update_text}
-use Rattle.world_tree.specs.WorldTrees.{IsTreeOf, newcomers_of, scene_after}
+use Rattle.world_tree.specs.WorldTrees.{IsTreeOf}
 use Rattle.world_core.specs.Endings.{IsNext}
 use Rattle.world_core.specs.LateTrees.{IsBehind, IsLateTreeOf, IsLeftBehind}
 use Rattle.world_core.specs.Scenes.{SceneValue, scene_in}
@@ -21,27 +21,23 @@ use Rattle.world_core.specs.declared.late_tree.LateTree.{LateTree}
 use Rattle.world_core.specs.declared.late_tree.LateTree.TheVariants.{Behind, Grown}
 use Rattle.world_core.specs.WorldValue.{IsWorldOf}
 
--- one more is the next number
-one_more : (n : ℕ) → n + 1 ≡ suc n
-one_more n = omega arith
-
 -- the world after one more update
 pub world_after-more : (config : ConfigValues) (n : ℕ)
     → world_after config (n + 1) ≡ next_world config (world_after config n)
 unfolding world_after
-world_after-more config n = rw one_more refl
+world_after-more config n = rw add-one refl
 
 -- what is counted then
 stats_of-more : (config : ConfigValues) (n : ℕ)
     → stats_of config (n + 1) ≡ next_stats config (world_after config n)
 unfolding stats_of
-stats_of-more config n = rw one_more refl
+stats_of-more config n = rw add-one refl
 
 -- the text of that update
 update_text-more : (config : ConfigValues) (n : ℕ)
     → update_text config (n + 1) ≡ lines_text (update_lines config (world_after config n))
 unfolding update_text
-update_text-more config n = rw one_more refl
+update_text-more config n = rw add-one refl
 
 -- the world that the next scene leaves
 pub world_of-next : (config : ConfigValues) (before : SceneValue)
@@ -62,8 +58,7 @@ pub next_world_is : (config : ConfigValues) (before after : SceneValue) (old sta
 next_world_is config before after old stats was is early = record {
   world = ap world_of is.scene ∙ world_of-next config before ∙ ap (next_world config) was.world
       ∙ sym (world_after-more config before.update) ∙ ap (world_after config) (sym is.update);
-  counts = is.counts ∙ ap (next_stats config) was.world ∙ sym (stats_of-more config before.update)
-      ∙ ap (stats_of config) (sym is.update);
+  counts = rw (is.update, stats_of-more, is.counts, was.world) refl;
   size = is.size ∙ was.size;
   few = omega (arith, is.few, was.few, is.update);
   settled = refl;
@@ -75,7 +70,7 @@ next_world_is config before after old stats was is early = record {
 pub everyone_after : (config : ConfigValues) (n : ℕ)
     → (next_scene config (world_after config n)).everyone ≡ (world_after config (n + 1)).everyone
 unfolding next_world
-everyone_after config n = ap (λ (w : World). w.everyone) (sym (world_after-more config n))
+everyone_after config n = rw world_after-more refl
 
 -- the text of the update after it
 pub next_text_is : (config : ConfigValues) (before : SceneValue) (old : Stats) (text : List ℕ)
@@ -83,21 +78,12 @@ pub next_text_is : (config : ConfigValues) (before : SceneValue) (old : Stats) (
     → text ≡ lines_text (update_lines config (world_of (scene_in before)))
     → text ≡ update_text config (before.update + 1)
 next_text_is config before old text was is =
-    is ∙ ap (λ (w : World). lines_text (update_lines config w)) was.world
-    ∙ sym (update_text-more config before.update)
+    rw (is, was.world, update_text-more) refl
 
 -- who died in the update is no part of a world
 pub without_gone : (config : ConfigValues) (s : SceneValue) (stats : Stats)
     → IsWorldOf config s stats → IsWorldOf config (record s { gone = [] }) stats
-without_gone config s stats is = record {
-  world = is.world;
-  counts = is.counts;
-  size = is.size;
-  few = is.few;
-  settled = is.settled;
-  updates = is.updates;
-  bank = is.bank;
-}
+without_gone config s stats is = search rules
 
 -- the scene at the end of the update after a world
 pub scene_after_is : (config : ConfigValues) (before after : SceneValue) (old stats : Stats)
@@ -111,9 +97,8 @@ pub everyone_is : (config : ConfigValues) (before after : SceneValue) (old stats
     → IsWorldOf config before old → IsNext config before after stats
     → after.everyone ≡ (world_after config after.update).everyone
 everyone_is config before after old stats was is =
-    ap (λ (s : Scene). s.everyone) (scene_after_is config before after old stats was is)
-    ∙ everyone_after config before.update
-    ∙ ap (λ n. (world_after config n).everyone) (sym is.update)
+    rw (is.update, ← everyone_after) (ap (λ (s : Scene). s.everyone)
+    (scene_after_is config before after old stats was is))
 
 -- a tree of the world before is one update behind, with those who came and those who died
 pub is_behind : (config : ConfigValues) (before after : SceneValue) (old stats : Stats)
@@ -128,12 +113,9 @@ is_behind config before after old stats tree newcomers gone was is tree_is came 
     let first = is.first ∙ was.settled ∙ ap (λ (w : World). length w.everyone) was.world in
     record {
       some = omega (arith, is.update);
-      tree_is = subst (λ n. IsTreeOf (world_after config n) tree) early tree_is;
-      came = came
-          ∙ (λ i. drop (first i) (scene i).everyone)
-          ∙ ap (newcomers_of config) early;
-      died = died ∙ ap (λ (s : Scene). s.gone) scene
-          ∙ ap (λ n. (scene_after config n).gone) early;
+      tree_is = rw (← early) tree_is;
+      came = rw (← early, came) (λ i. drop (first i) (scene i).everyone);
+      died = rw (← early, died) (ap (λ (s : Scene). s.gone) scene);
     }
 
 -- the tree that grew in the update is one update behind the scene at its end
