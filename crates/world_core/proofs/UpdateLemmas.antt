@@ -1,5 +1,5 @@
 -- What every phase of an update keeps, and how their texts join.
-use Rattle.std.proofs.Common.{◌≡◌, ◌∙◌, refl, sym, ℕ, ◌+◌, List, [], ◌∷◌, ◌++◌, Option, ap, length, map, append_assoc, append-nil, arith}
+use Rattle.std.proofs.Common.{◌≡◌, ◌∙◌, refl, ℕ, ◌+◌, List, [], ◌∷◌, ◌++◌, Option, length, map, append_assoc, append-nil, arith}
 use Rattle.std.specs.List.{fold}
 use Rattle.std.proofs.lemmas.Grind.{flat_map-append}
 use Rattle.std.proofs.lemmas.List.{length-map}
@@ -123,47 +123,35 @@ module _ (config : ConfigValues) (w : World) (dead : List Departure) (births : L
 
   -- the dead have left
   buried_is : s1 ≡ after_burials lived_scene lives
-  buried_is = p.buried ∙ (λ i.
-      record (p.lived i) { gone = (p.lived i).gone ++ map (λ one. one.id) (p.dead_are i) })
-      ∙ sym (burials-are (w.update + 1) w.everyone lives)
+  buried_is = rw (p.buried, p.lived, p.dead_are, burials-are) refl
 
   -- the newborns stand in their cells
   placed_is : s2 ≡ after_births config (after_burials lived_scene lives) (births_of lives)
-  placed_is = p.placed ∙ (λ i. after_births config (buried_is i) (p.births_are i))
+  placed_is = rw (p.placed, buried_is, p.births_are) refl
 
   -- the last scene is that of the update
   pub scene_of_phases : s3 ≡ next_scene config w
   unfolding next_scene scene_of_lives last_scene
-  scene_of_phases = p.happened ∙ ap (after_events config) placed_is
+  scene_of_phases = rw (p.happened, placed_is) refl
 
   -- so is what is counted
   pub stats_of_phases : stats ≡ next_stats config w
   unfolding next_stats
-  stats_of_phases = p.counted ∙ (λ i. scene_stats (scene_of_phases i) (length (p.births_are i)))
+  stats_of_phases = rw (p.counted, scene_of_phases, p.births_are) refl
 
   -- what is counted, by the last scene
   counted_is : stats ≡ scene_stats (last_scene config lived_scene lives) (length (births_of lives))
   unfolding last_scene
-  counted_is = p.counted ∙ (λ i. scene_stats ((p.happened ∙ ap (after_events config) placed_is) i)
-      (length (p.births_are i)))
+  counted_is = rw (p.counted, p.happened, placed_is, p.births_are) refl
 
   -- their lines are those of the update
   pub lines_of_phases : map (departure_line (w.update + 1)) dead ++ birth_lines config s1 births
       ++ event_lines config s2 ++ Count stats ∷ [] ≡ update_lines config w
   unfolding update_lines lines_of_lives
-  lines_of_phases = λ i.
-      (ap (map (departure_line (w.update + 1))) p.dead_are
-      ∙ sym (burial-lines-are (w.update + 1) w.everyone lives)) i
-      ++ birth_lines config (buried_is i) (p.births_are i)
-      ++ event_lines config (placed_is i)
-      ++ Count (counted_is i) ∷ []
+  lines_of_phases =
+      rw (counted_is, placed_is, buried_is, p.births_are, p.dead_are, burial-lines-are) refl
 
   -- an update is one more
   pub update_of_phases : s3.update ≡ w.update + 1
   update_of_phases =
-      let first : s0.update ≡ w.update + 1 = ap (λ (s : Scene). s.update) p.lived in
-      let second : s1.update ≡ s0.update = ap (λ (s : Scene). s.update) p.buried in
-      let third : s2.update ≡ s1.update =
-      ap (λ (s : Scene). s.update) p.placed ∙ after_births-update config s1 births in
-      ap (λ (s : Scene). s.update) p.happened ∙ after_events-update config s2 ∙ third ∙ second
-      ∙ first
+      rw (p.happened, after_events-update, p.placed, after_births-update, p.buried, p.lived) refl
