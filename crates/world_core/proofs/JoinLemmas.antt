@@ -1,19 +1,19 @@
 -- Jobs that part the cells, and what comes of them as one.
 use Rattle.std.proofs.Common.{◌≡◌, ◌∙◌, refl, sym, ap, ℕ, suc, ◌+◌, ◌≤◌, List, [], ◌∷◌, ◌++◌, append_assoc, length, map, Option, arith, inl, inr}
 use Rattle.std.specs.Prelude.{◌↔◌}
-use Rattle.std.specs.List.{All, Contains, cons_option, filter_map, flat_map, sum_by}
+use Rattle.std.specs.List.{All, Contains, flat_map, sum_by}
 use Rattle.std.specs.List.Sorted.{IsPermutation}
+use Rattle.std.proofs.lemmas.Grind.{common_steps}
 use Rattle.std.proofs.lemmas.List.{map-append}
-use Rattle.std.proofs.lemmas.List.Elements.{All-cons, All-head, All-nil, All-tail, Contains-append_cases, Contains-append_left, Contains-append_right, filter_map-append}
+use Rattle.std.proofs.lemmas.List.Elements.{All-cons, All-nil, Contains-append_cases, Contains-append_left, Contains-append_right, filter_map-append}
 use Rattle.std.proofs.lemmas.List.Sorted.{IsPermutation-refl, IsPermutation-sym}
-use Rattle.std.proofs.lemmas.List.Sums.{sum_by-cons}
 use mathlib.Core.List.{IsPrefix}
 use Rattle.cell_shards.specs.CellLives.{RoundNumbers, births_from, deaths_from, left_in, part_from, shard_lives_of, standing_in}
 use Rattle.cell_shards.specs.Finishing.{AreFinished, IsFinished, IsNumbered, birth_of, call_for, genome_in, part_of}
 use Rattle.cell_shards.specs.declared.delivered.Delivered.{Delivered}
 use Rattle.cell_shards.specs.declared.finished.Finished.{Finished}
 use Rattle.cell_shards.specs.declared.job.Job.{Job}
-use Rattle.genotype_bank.specs.BankHistory.{HasEachOnce, calls_under, genomes_of, genotypes_of, interned_genome}
+use Rattle.genotype_bank.specs.BankHistory.{HasEachOnce, calls_under, genomes_of, genotypes_of}
 use Rattle.genotype_bank.specs.Seats.{SeatValue, own_calls_of}
 use Rattle.genotype_bank.specs.declared.view.Entry.{Entry}
 use Rattle.instruction_set.specs.declared.letter.Letter.{Letter}
@@ -64,8 +64,6 @@ AllPairwise round (job ∷ jobs) (one ∷ all) = IsFinished round job one × All
 pub each-finished : (round : RoundNumbers) (jobs : List Job) (all : List Finished)
     → AreFinished round jobs all → AllPairwise round jobs all
 each-finished round [] [] are = tt
-each-finished round [] (one ∷ all) are = absurd (omega (arith, are.count))
-each-finished round (job ∷ jobs) [] are = absurd (omega (arith, are.count))
 each-finished round (job ∷ jobs) (one ∷ all) are = (
   are.each 0 job one (omega arith),
   each-finished round jobs all
@@ -74,6 +72,7 @@ each-finished round (job ∷ jobs) (one ∷ all) are = (
         each = λ place job end within. are.each (suc place) job end (omega (arith, within));
       }),
 )
+each-finished round _ _ are = absurd (omega (arith, are.count))
 
 -- a seat without numbers has no calls
 no-calls : (seen : List Entry) → calls_under [] seen ≡ []
@@ -83,17 +82,11 @@ no-calls (one ∷ seen) = no-calls seen
 -- the genomes of calls that interned newborns
 calls-genomes : (calls : List Entry) (births : List Delivered)
     → map (λ call. call.call) calls ≡ map call_for births → genomes_of calls ≡ map genome_in births
-calls-genomes calls births same =
-    alone calls ∙ ap (filter_map interned_genome) same ∙ called births where
-      alone : (calls : List Entry)
-          → genomes_of calls ≡ filter_map interned_genome (map (λ call. call.call) calls)
-      alone [] = refl
-      alone (call ∷ calls) = ap (cons_option (interned_genome call.call)) (alone calls)
-
-      called : (births : List Delivered)
-          → filter_map interned_genome (map call_for births) ≡ map genome_in births
-      called [] = refl
-      called (birth ∷ births) = ap (λ rest. genome_in birth ∷ rest) (called births)
+calls-genomes [] [] same = refl
+calls-genomes (call ∷ calls) (birth ∷ births) same =
+    let here : call.call ≡ call_for birth = cc in
+    rw (here, calls-genomes calls births (cc)) refl
+calls-genomes _ _ same = absurd cc
 
 -- the own calls of shards
 abbrev pub calls_in : List Finished → List Entry
@@ -110,30 +103,25 @@ module _ (laws : PartsLaws) (round : RoundNumbers) where
   unfolding shard_lives_of
   jobs-live first [] beside = refl
   jobs-live first (job ∷ jobs) beside =
-      laws.lives round first job.cells (cells_in jobs) job.slices (slices_in jobs) beside.1
-      ∙ (λ i. shard_lives_of round (part_from (sym beside.0 i) job.cells job.slices)
-      ++ jobs-live (first + length job.cells) jobs beside.2 i)
+      rw (laws.lives _ _ _ _ _ _ beside.1, jobs-live (first + length job.cells) jobs beside.2)
+      (rw (← beside.0) refl)
 
   -- what the shards leave in the cells is what those lives leave
   cells-joined : (jobs : List Job) (all : List Finished) → AllPairwise round jobs all
       → flat_map (λ one. one.cells) all ≡ map left_in (lives_in jobs)
   cells-joined [] [] are = refl
-  cells-joined [] (one ∷ all) are = absurd are
-  cells-joined (job ∷ jobs) [] are = absurd are
   cells-joined (job ∷ jobs) (one ∷ all) are =
-      (λ i. are.0.cells i ++ cells-joined jobs all are.1 i)
-      ∙ sym (map-append left_in (shard_lives_of round (part_of job)) (lives_in jobs))
+      rw (are.0.cells, cells-joined jobs all are.1, map-append) refl
+  cells-joined _ _ are = absurd are
 
   -- what is told of the cells is what is counted of them
   standings-joined : (jobs : List Job) (all : List Finished) → AllPairwise round jobs all
       → flat_map (λ one. one.standings) all
       ≡ map standing_in (flat_map (λ one. one.cells) all)
   standings-joined [] [] are = refl
-  standings-joined [] (one ∷ all) are = absurd are
-  standings-joined (job ∷ jobs) [] are = absurd are
   standings-joined (job ∷ jobs) (one ∷ all) are =
-      (λ i. are.0.standings i ++ standings-joined jobs all are.1 i)
-      ∙ sym (map-append standing_in one.cells (flat_map (λ one. one.cells) all))
+      rw (are.0.standings, standings-joined jobs all are.1, map-append) refl
+  standings-joined _ _ are = absurd are
 
   -- the cell behind a job's cells, by its lives
   cell-behind : (first : ℕ) (job : Job) → first + length job.cells
@@ -145,30 +133,20 @@ module _ (laws : PartsLaws) (round : RoundNumbers) where
       → AllPairwise round jobs all
       → map birth_of (flat_map (λ one. one.births) all) ≡ births_from first (lives_in jobs)
   births-joined first [] [] beside are = refl
-  births-joined first [] (one ∷ all) beside are = absurd are
-  births-joined first (job ∷ jobs) [] beside are = absurd are
   births-joined first (job ∷ jobs) (one ∷ all) beside are =
-      let many = cell-behind first job in
-      map-append birth_of one.births (flat_map (λ one. one.births) all)
-      ∙ (λ i. (are.0.births ∙ ap (λ n. births_from n (shard_lives_of round (part_of job)))
-      beside.0) i
-      ++ (births-joined (first + length job.cells) jobs all beside.2 are.1
-      ∙ ap (λ n. births_from n (lives_in jobs)) many) i)
-      ∙ sym (laws.births first (shard_lives_of round (part_of job)) (lives_in jobs))
+      let others = births-joined (first + length job.cells) jobs all beside.2 are.1 in
+      rw (laws.births, map-append, are.0.births, others, cell-behind first job, ← beside.0) refl
+  births-joined first _ _ beside are = absurd are
 
   -- and the dead
   dead-joined : (first : ℕ) (jobs : List Job) (all : List Finished) → LieSideBySide first jobs
       → AllPairwise round jobs all
       → flat_map (λ one. one.dead) all ≡ deaths_from first (lives_in jobs)
   dead-joined first [] [] beside are = refl
-  dead-joined first [] (one ∷ all) beside are = absurd are
-  dead-joined first (job ∷ jobs) [] beside are = absurd are
   dead-joined first (job ∷ jobs) (one ∷ all) beside are =
-      let many = cell-behind first job in
-      (λ i. (are.0.dead ∙ ap (λ n. deaths_from n (shard_lives_of round (part_of job))) beside.0) i
-      ++ (dead-joined (first + length job.cells) jobs all beside.2 are.1
-      ∙ ap (λ n. deaths_from n (lives_in jobs)) many) i)
-      ∙ sym (laws.deaths first (shard_lives_of round (part_of job)) (lives_in jobs))
+      let others = dead-joined (first + length job.cells) jobs all beside.2 are.1 in
+      rw (laws.deaths, are.0.dead, others, cell-behind first job, ← beside.0) refl
+  dead-joined first _ _ beside are = absurd are
 
   module _ (seat : SeatValue) where
     -- the shards behind the first give their shares back
@@ -176,36 +154,22 @@ module _ (laws : PartsLaws) (round : RoundNumbers) where
         → All (λ job. job.seat ≡ seat_from seat) jobs → AllPairwise round jobs all
         → sum_by (λ one. one.seat.share) all ≡ length jobs
     shares-joined [] [] new are = refl
-    shares-joined [] (one ∷ all) new are = absurd are
-    shares-joined (job ∷ jobs) [] new are = absurd are
     shares-joined (job ∷ jobs) (one ∷ all) new are =
-        let here = All-head (λ job. job.seat ≡ seat_from seat) job jobs new in
-        omega (
-          arith,
-          sum_by-cons (λ (one : Finished). one.seat.share) one all,
-          are.0.seat.share,
-          ap (λ (s : SeatValue). s.share) here,
-          shares-joined jobs all (All-tail (λ job. job.seat ≡ seat_from seat) job jobs new) are.1,
-        )
+        let others = shares-joined jobs all (λ k d w. new (suc k) d (omega arith)) are.1 in
+        grind (arith, common_steps, are.0.seat.share, new 0 job (omega arith), others)
+    shares-joined _ _ new are = absurd are
 
     -- and their calls are those that interned their newborns
     genomes-joined : (jobs : List Job) (all : List Finished)
         → All (λ job. job.seat ≡ seat_from seat) jobs → AllPairwise round jobs all
         → genomes_of (calls_in all) ≡ map genome_in (flat_map (λ one. one.births) all)
     genomes-joined [] [] new are = refl
-    genomes-joined [] (one ∷ all) new are = absurd are
-    genomes-joined (job ∷ jobs) [] new are = absurd are
     genomes-joined (job ∷ jobs) (one ∷ all) new are =
-        let here = All-head (λ job. job.seat ≡ seat_from seat) job jobs new in
         let interned = are.0.seat in
-        let own : own_calls_of one.seat ≡ interned.calls = interned.own
-        ∙ ap (λ calls. calls ++ interned.calls) (ap own_calls_of here ∙ no-calls seat.seen) in
-        filter_map-append (λ (one : Entry). interned_genome one.call) (own_calls_of one.seat)
-        (calls_in all)
-        ∙ (λ i. (ap genomes_of own ∙ calls-genomes interned.calls one.births interned.interned) i
-        ++ genomes-joined jobs all (All-tail (λ job. job.seat ≡ seat_from seat) job jobs new)
-        are.1 i)
-        ∙ sym (map-append genome_in one.births (flat_map (λ one. one.births) all))
+        let others = genomes-joined jobs all (λ k d w. new (suc k) d (omega arith)) are.1 in
+        rw (filter_map-append, interned.own, ap own_calls_of (new 0 job (omega arith)), no-calls)
+        (rw (calls-genomes interned.calls one.births interned.interned, others, map-append) refl)
+    genomes-joined _ _ new are = absurd are
 
 -- what the shards of some cells come to, as one
 pub record EndsAs (round : RoundNumbers) (seat : SeatValue) (cells : List (Option OrganismState))
@@ -248,16 +212,15 @@ ends-as laws round seat cells slices (job ∷ jobs) (first ∷ others) whole par
     (λ i. shard_lives_of round (part_from 0 (sym parts.cells_are i) (sym parts.slices_are i)))
     ∙ jobs-live laws round 0 (job ∷ jobs) parts.beside in
     let interned = are.0.seat in
+    let behind = genomes-joined laws round seat jobs others shares.1 are.1 in
     let kept : own_calls_of job.seat ≡ own_calls_of seat = ap own_calls_of shares.0 in
     record {
       left = is.cells ∙ cells-joined laws round (job ∷ jobs) (first ∷ others) are
           ∙ ap (map left_in) (sym whole_lives);
-      standings = is.standings
-          ∙ standings-joined laws round (job ∷ jobs) (first ∷ others) are
-          ∙ ap (map standing_in) (sym is.cells);
-      births = ap (map birth_of) is.births
-          ∙ births-joined laws round 0 (job ∷ jobs) (first ∷ others) parts.beside are
-          ∙ ap (births_from 0) (sym whole_lives);
+      standings = rw (is.standings, is.cells)
+          (standings-joined laws round (job ∷ jobs) (first ∷ others) are);
+      births = rw (is.births, whole_lives)
+          (births-joined laws round 0 (job ∷ jobs) (first ∷ others) parts.beside are);
       dead = is.dead ∙ dead-joined laws round 0 (job ∷ jobs) (first ∷ others) parts.beside are
           ∙ ap (deaths_from 0) (sym whole_lives);
       bank = is.bank ∙ interned.bank ∙ ap (λ (s : SeatValue). s.bank) shares.0;
@@ -273,19 +236,9 @@ ends-as laws round seat cells slices (job ∷ jobs) (first ∷ others) whole par
           (rw shares.0 at interned.seen) is.seen;
       calls = own_calls_of first.seat ++ calls_in others;
       own = is.own;
-      genomes = rw (
-        filter_map-append (λ (one : Entry). interned_genome one.call) (own_calls_of first.seat)
-            (calls_in others),
-        interned.own,
-        filter_map-append (λ (one : Entry). interned_genome one.call) (own_calls_of job.seat)
-            interned.calls,
-        genomes-joined laws round seat jobs others shares.1 are.1,
-        kept,
-        calls-genomes interned.calls first.births interned.interned,
-        is.births,
-        map-append genome_in first.births (flat_map (λ one. one.births) others),
-        append_assoc,
-      );
+      genomes = rw (filter_map-append, interned.own, filter_map-append, kept, behind, is.births)
+          (rw (calls-genomes interned.calls first.births interned.interned, map-append, append_assoc)
+          refl);
       numbers = is.numbers;
     }
 
@@ -293,26 +246,22 @@ ends-as laws round seat cells slices (job ∷ jobs) (first ∷ others) whole par
 pub seats-finished : (round : RoundNumbers) (seat : SeatValue) (jobs : List Job)
     (all : List Finished) → All (λ (job : Job). job.seat.bank ≡ seat.bank) jobs
     → AllPairwise round jobs all → All (λ (one : Finished). one.seat.bank ≡ seat.bank) all
-seats-finished round seat [] [] banks are = All-nil (λ (one : Finished). one.seat.bank ≡ seat.bank)
-seats-finished round seat [] (one ∷ all) banks are = absurd are
-seats-finished round seat (job ∷ jobs) [] banks are = absurd are
+seats-finished round seat [] [] banks are = All-nil _
 seats-finished round seat (job ∷ jobs) (one ∷ all) banks are =
     All-cons (λ (one : Finished). one.seat.bank ≡ seat.bank) one all
-    (are.0.seat.bank ∙ All-head (λ (job : Job). job.seat.bank ≡ seat.bank) job jobs banks)
-    (seats-finished round seat jobs all
-    (All-tail (λ (job : Job). job.seat.bank ≡ seat.bank) job jobs banks) are.1)
+    (are.0.seat.bank ∙ banks 0 job (omega arith))
+    (seats-finished round seat jobs all (λ k d w. banks (suc k) d (omega arith)) are.1)
+seats-finished round seat _ _ banks are = absurd are
 
 -- the numbers of their newborns
 pub numbers-finished : (round : RoundNumbers) (jobs : List Job) (all : List Finished)
     → AllPairwise round jobs all
     → All (λ (one : Finished). All (IsNumbered one.seat.seen) one.births) all
-numbers-finished round [] [] are =
-    All-nil (λ (one : Finished). All (IsNumbered one.seat.seen) one.births)
-numbers-finished round [] (one ∷ all) are = absurd are
-numbers-finished round (job ∷ jobs) [] are = absurd are
+numbers-finished round [] [] are = All-nil _
 numbers-finished round (job ∷ jobs) (one ∷ all) are =
     All-cons (λ (one : Finished). All (IsNumbered one.seat.seen) one.births) one all
     are.0.seat.numbers (numbers-finished round jobs all are.1)
+numbers-finished round _ _ are = absurd are
 
 -- the seats of jobs that share one
 pub seats-shared : (seat : SeatValue) (jobs : List Job) → ShareSeat seat jobs
