@@ -1,10 +1,8 @@
-use Rattle.std.proofs.Common.{◌∙◌, refl, sym, ap, subst, ◌<◌, length, get_or, eq-eqb, arith}
+use Rattle.std.proofs.Common.{◌∙◌, refl, ap, ◌<◌, length, get_or, eq-eqb, arith}
 use Rattle.std.proofs.lemmas.Bool.{ne_eqb}
-use Rattle.world_config.specs.Events.{what_value}
-use Rattle.world_core.specs.Happening.{CanHappen}
-use Rattle.world_core.specs.Scenes.{Grows, SceneValue, scene_in}
+use Rattle.world_core.specs.Scenes.{SceneValue, scene_in}
 use Rattle.world_core.proofs.GrowLemmas.{Grows_on, Grows_same}
-use Rattle.world_core.proofs.EventLemmas.{IsOnTheWay, way-start, way-past, way-on, event-can_happen}
+use Rattle.world_core.proofs.EventLemmas.{way-start, way-past, way-on, event-can_happen}
 use Rattle.world_core.proofs.events.apply_events.Goals.{then-event-update+in_ok-apply_event, else-event-update}
 use Rattle.world_core.proofs.events.apply_events.Goals as goal
 
@@ -13,8 +11,7 @@ loop-at-init g c =
     let first = scene_in c.args.scene.now in
     let start = c.args.text.now.items in
     record {
-      way = subst (λ update. IsOnTheWay c.args.config.now update 0 first first start start)
-          (sym (ap (λ (s : SceneValue). s.update) c.scene.view_is))
+      way = rw (ap (λ (s : SceneValue). s.update) c.scene.view_is)
           (way-start c.args.config.now first start);
       size = refl;
       everyone = omega arith;
@@ -29,9 +26,7 @@ apply_event-requires-clause-fits g c =
     let event = c.event-item.result in
     let events = c.as_slice-event-items.ensures in
     let within : at < length config.event = omega (arith, ap length events, c.loop-at-test.true) in
-    subst (λ cells. CanHappen cells config.greatest_length (what_value event.what))
-    (sym (c.loop-at.invariant.size ∙ c.requires.size))
-    (event-can_happen config at event within
+    rw (c.loop-at.invariant.size, c.requires.size) (event-can_happen config at event within
     (c.event-item.is ∙ ap (λ events. get_or events at event) events))
 
 pub loop-at-preserved : goal.loop-at-preserved
@@ -55,18 +50,10 @@ loop-at-preserved g c =
                 (eq-eqb event.update c.scene.inside.update w.if-event-update.true)
                 (ap scene_in w.scene-is ∙ turn.scene)
                 (ap (λ text. text.items) w.text-is ∙ turn.text) before.way;
-            size = ap (λ (s : SceneValue). length s.cells) w.scene-is ∙ turn.size ∙ before.size;
-            everyone = omega (
-              arith,
-              ap (λ (s : SceneValue). length s.everyone) w.scene-is,
-              turn.everyone,
-              before.everyone,
-            );
-            first = ap (λ (s : SceneValue). s.first) w.scene-is ∙ turn.first ∙ before.first;
-            bank = Grows_on _ _ _ _ _ _ before.bank
-                (subst (λ (s : SceneValue).
-                Grows c.loop-at.scene.bank s.bank c.loop-at.scene.everyone s.everyone)
-                (sym w.scene-is) turn.bank);
+            size = rw w.scene-is (turn.size ∙ before.size);
+            everyone = rw w.scene-is (omega (arith, turn.everyone, before.everyone));
+            first = rw w.scene-is (turn.first ∙ before.first);
+            bank = rw w.scene-is (Grows_on _ _ _ _ _ _ before.bank turn.bank);
           }
       | else-event-update w ↦
           let same = way-past config c.scene.inside.update at event first (scene_in c.loop-at.scene)
@@ -74,15 +61,9 @@ loop-at-preserved g c =
           (ne_eqb event.update c.scene.inside.update w.if-event-update.false) before.way in
           record {
             way = rw (w.scene-is, w.text-is) same;
-            size = ap (λ (s : SceneValue). length s.cells) w.scene-is ∙ before.size;
-            everyone = omega (
-              arith,
-              ap (λ (s : SceneValue). length s.everyone) w.scene-is,
-              before.everyone,
-            );
-            first = ap (λ (s : SceneValue). s.first) w.scene-is ∙ before.first;
-            bank = subst (λ (s : SceneValue).
-                Grows c.args.scene.now.bank s.bank c.args.scene.now.everyone s.everyone)
-                (sym w.scene-is) before.bank;
+            size = rw w.scene-is before.size;
+            everyone = rw w.scene-is (omega (arith, before.everyone));
+            first = rw w.scene-is before.first;
+            bank = rw w.scene-is before.bank;
           }
     ]
