@@ -144,10 +144,7 @@ impl Letter {
         ensures letter { result ≡ letter_of_byte byte }
         ensures none { IsNone result ↔ (byte < 97 ⊎ 123 ≤ byte) }
     {
-        if byte < FIRST_BYTE {
-            return None;
-        }
-        Letter::from_index(byte - FIRST_BYTE)
+        Letter::from_index(byte.wrapping_sub(FIRST_BYTE))
     }
 
     /// The letter of this name. Capitals count.
