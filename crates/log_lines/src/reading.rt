@@ -56,10 +56,8 @@ fn changes_in(alloc: Global, spare: Vec<Change>, bytes: &[u8]) -> Result<Option<
 {
     match bytes {
         [b'-'] => Ok(Some(no_changes(spare))),
-        _ => match last_word(Some(bytes)) {
-            Some(word) => changes(alloc, spare, word),
-            None => Ok(None),
-        },
+        // The text of changes has no space, so a rest of two words is none.
+        _ => changes(alloc, spare, bytes),
     }
 }
 
