@@ -47,7 +47,7 @@ fn leading_value(text: &[u8]) -> Option<(u64, usize)>
         × (found.1 ≡ digits_len text.now)) }
 {
     if text.len() < SHORT {
-        return long_value(text);
+        return Some(short_value(text));
     }
     let mut value: u64 = 0;
     // So many digits surely fit, and a loop of a fixed length costs less.
@@ -59,6 +59,25 @@ fn leading_value(text: &[u8]) -> Option<(u64, usize)>
         value = value * 10 + digit;
     }
     long_value(text)
+}
+
+/// As `leading_value`, for a text so short that its digits surely fit.
+#[tactic(auto, using(crate::proofs::DigitLemmas::short_fits))]
+#[inline(never)]
+fn short_value(text: &[u8]) -> (u64, usize)
+    requires { length text.now < 8 }
+    ensures value { result.0 ≡ digits_value 10 (leading_digits text.now) }
+    ensures len { result.1 ≡ digits_len text.now }
+{
+    let mut value: u64 = 0;
+    for len in 0..text.len() {
+        let digit = u64::from(text[len]).wrapping_sub(u64::from(b'0'));
+        if digit > 9 {
+            return (value, len);
+        }
+        value = value * 10 + digit;
+    }
+    (value, text.len())
 }
 
 /// As `leading_value`, for digits of any number.
