@@ -70,6 +70,7 @@ fn no_changes(spare: Vec<Change>) -> Changes
     Changes::from_vec(none)
 }
 
+#[inline(always)]
 fn over_first<'a>(rest: Option<&'a [u8]>) -> Option<(Option<u64>, Option<&'a [u8]>)>
     ensures { option_map (λ p. (p.0, words_of (option_copied p.1))) result
         ≡ read_first over_field.read (words_of (option_copied rest.entry)) }
@@ -80,6 +81,7 @@ fn over_first<'a>(rest: Option<&'a [u8]>) -> Option<(Option<u64>, Option<&'a [u8
     }
 }
 
+#[inline(always)]
 fn over_in(bytes: &[u8]) -> Option<(Option<u64>, Option<&[u8]>)>
     ensures { option_map (λ p. (p.0, words_of (option_copied p.1))) result
         ≡ read_first over_field.read (words_of (Some bytes.now)) }
@@ -110,6 +112,7 @@ struct Arrival {
     over: Option<u64>,
 }
 
+#[inline(always)]
 fn arrival_first<'a>(rest: Option<&'a [u8]>) -> Option<(Arrival, Option<&'a [u8]>)>
     ensures { option_map (λ p. (p.0, words_of (option_copied p.1))) result
         ≡ read_arrival (words_of (option_copied rest.entry)) }
