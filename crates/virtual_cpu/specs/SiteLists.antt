@@ -17,6 +17,11 @@ pub record SiteLists : Type 0 where
 abbrev pub clean_of : List Site → List Letter
 clean_of sites = map (λ site. site.clean) sites
 
+-- what was copied to a site, or what it holds
+abbrev pub letter_by : Bool → Site → Letter
+letter_by true site = site.clean
+letter_by false site = site.letter
+
 -- whether some sites were executed
 abbrev pub executed_of : List Site → List Bool
 executed_of sites = map (λ site. site.executed) sites

@@ -3,7 +3,7 @@ ghost use Rattle.std.specs.Prelude.{◌≡◌, ◌+◌, ◌-◌, ◌<◌, ◌≤
 ghost use Rattle.instruction_set.specs.declared.letter.Letter.TheVariants.{NopA};
 ghost use Rattle.label_search.specs.Site.{letters_of};
 ghost use Rattle.virtual_cpu.specs.Divide.{count_of, parent_part, child_part};
-ghost use Rattle.virtual_cpu.specs.SiteLists.{clean_of, executed_of, copied_of, fresh_site, fresh_lists, with_places, with_copy};
+ghost use Rattle.virtual_cpu.specs.SiteLists.{clean_of, executed_of, copied_of, letter_by, fresh_site, fresh_lists, with_places, with_copy};
 
 use crate::reserved::append_copies;
 use avida_port::Memory;
@@ -184,7 +184,7 @@ impl Sites {
         requires within { end ≤ length self.now.letters }
         ensures { IfOk result (λ v. v.items ≡ child_part self.now.letters from end) }
     {
-        letters_in(alloc, self.part(from, end))
+        text_in(alloc, self.part(from, end), false)
     }
 
     /// The clean letters from one place up to another.
@@ -198,19 +198,19 @@ impl Sites {
         requires within { end ≤ length self.now.letters }
         ensures { IfOk result (λ v. v.items ≡ child_part self.now.clean from end) }
     {
-        clean_in(alloc, self.part(from, end))
+        text_in(alloc, self.part(from, end), true)
     }
 
     pub(crate) fn all_letters(&self, alloc: Global) -> Result<Vec<Letter>, AllocError>
         ensures { IfOk result (λ v. v.items ≡ self.now.letters) }
     {
-        letters_in(alloc, self.items.as_slice())
+        text_in(alloc, self.items.as_slice(), false)
     }
 
     pub(crate) fn all_clean(&self, alloc: Global) -> Result<Vec<Letter>, AllocError>
         ensures { IfOk result (λ v. v.items ≡ self.now.clean) }
     {
-        clean_in(alloc, self.items.as_slice())
+        text_in(alloc, self.items.as_slice(), true)
     }
 
     pub(crate) fn all_executed(&self, alloc: Global) -> Result<Vec<bool>, AllocError>
@@ -282,22 +282,14 @@ fn count_copied(sites: &[Site]) -> usize
     count
 }
 
-fn letters_in(alloc: Global, sites: &[Site]) -> Result<Vec<Letter>, AllocError>
-    ensures { IfOk result (λ v. v.items ≡ letters_of sites.now) }
+/// What the sites hold, or what was copied to them.
+#[inline(always)]
+fn text_in(alloc: Global, sites: &[Site], clean: bool) -> Result<Vec<Letter>, AllocError>
+    ensures { IfOk result (λ v. v.items ≡ map (letter_by clean) sites.now) }
 {
     let mut letters = Vec::with_capacity(alloc, sites.len())?;
     for site in sites {
-        letters.push_reserved(site.letter());
-    }
-    Ok(letters)
-}
-
-fn clean_in(alloc: Global, sites: &[Site]) -> Result<Vec<Letter>, AllocError>
-    ensures { IfOk result (λ v. v.items ≡ clean_of sites.now) }
-{
-    let mut letters = Vec::with_capacity(alloc, sites.len())?;
-    for site in sites {
-        letters.push_reserved(site.clean());
+        letters.push_reserved(if clean { site.clean() } else { site.letter() });
     }
     Ok(letters)
 }

@@ -1,8 +1,0 @@
-use Rattle.std.proofs.Common.{◌∙◌, ap, arith}
-use Rattle.std.proofs.lemmas.List.{take_all}
-use Rattle.label_search.specs.Site.{letters_of}
-use Rattle.virtual_cpu.proofs.sites.letters_in.Goals as goal
-
-pub returns : goal.returns
-returns c = c.loop-site.invariant.letters
-    ∙ ap letters_of (take_all c.loop-site.site-index c.args.sites.now (omega arith))

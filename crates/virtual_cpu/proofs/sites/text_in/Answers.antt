@@ -1,0 +1,8 @@
+use Rattle.std.proofs.Common.{◌∙◌, ap, arith, map}
+use Rattle.std.proofs.lemmas.List.{take_all}
+use Rattle.virtual_cpu.specs.SiteLists.{letter_by}
+use Rattle.virtual_cpu.proofs.sites.text_in.Goals as goal
+
+pub returns : goal.returns
+returns c = c.loop-site.invariant.letters
+    ∙ ap (map (letter_by c.args.clean)) (take_all c.loop-site.site-index c.args.sites.now (omega arith))
