@@ -4,17 +4,22 @@ use std::alloc::Global;
 use std::marker::Model;
 use std::sync::Arc;
 
-/// One organism, as it comes into a tree: where it came from, and its genome at birth, which may be
-/// shared.
+/// How an organism came: its parent and its record of birth, both None for a founder, and the
+/// update and the cell.
+#[derive(Drop)]
+pub struct Provenance {
+    pub parent: Option<u64>,
+    pub origin: Option<Origin>,
+    pub update: u32,
+    pub cell: u32,
+}
+
+/// One organism, as it comes into a tree: its id, how it came, and its genome at birth, which may
+/// be shared.
 #[derive(Drop)]
 pub struct Ancestor {
     pub id: u64,
-    /// None for a founder.
-    pub parent: Option<u64>,
-    pub update: u32,
-    pub cell: u32,
-    /// None for a founder.
-    pub origin: Option<Origin>,
+    pub came: Provenance,
     pub genome: Arc<Genome, Global>,
 }
 
@@ -28,10 +33,10 @@ impl Model for Ancestor {
 
     ghost view = { λ a. record {
       id = a.id;
-      parent = a.parent;
-      update = a.update;
-      cell = a.cell;
-      origin = option_map record_of a.origin;
+      parent = a.came.parent;
+      update = a.came.update;
+      cell = a.came.cell;
+      origin = option_map record_of a.came.origin;
       genome = letters a.genome.value;
     } };
 }

@@ -22,7 +22,7 @@ mod slots;
 mod stage;
 mod tree;
 
-pub use ancestor::Ancestor;
+pub use ancestor::{Ancestor, Provenance};
 pub use link::{Link, Path};
 pub use living::{Living, Livings};
 pub use log::Log;

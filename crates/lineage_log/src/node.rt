@@ -4,7 +4,7 @@ ghost use Rattle.genome.specs.Genome.{letters};
 ghost use Rattle.mutations.specs.BirthRecord.{record_of};
 ghost use Rattle.lineage_log.specs.Nodes.{is_needed, node_link};
 
-use crate::ancestor::Ancestor;
+use crate::ancestor::{Ancestor, Provenance};
 use crate::link::Link;
 use avida_port::Memory;
 use genome::Genome;
@@ -16,10 +16,7 @@ use std::sync::Arc;
 /// An organism that lives or has descendants that do.
 #[derive(Drop)]
 pub(crate) struct Node {
-    parent: Option<u64>,
-    update: u32,
-    cell: u32,
-    origin: Option<Origin>,
+    came: Provenance,
     genome: Arc<Genome, Global>,
     /// How many of its children are in the tree.
     children: u64,
@@ -35,10 +32,10 @@ impl Model for Node {
     ghost Value = { NodeValue };
 
     ghost view = { λ n. record {
-      parent = n.parent;
-      update = n.update;
-      cell = n.cell;
-      origin = option_map record_of n.origin;
+      parent = n.came.parent;
+      update = n.came.update;
+      cell = n.came.cell;
+      origin = option_map record_of n.came.origin;
       genome = letters n.genome.value;
       children = n.children;
       lives = n.lives;
@@ -58,19 +55,9 @@ impl Node {
           lives = true;
         } }
     {
-        let Ancestor {
-            parent,
-            update,
-            cell,
-            origin,
-            genome,
-            ..
-        } = newcomer;
+        let Ancestor { came, genome, .. } = newcomer;
         Node {
-            parent,
-            update,
-            cell,
-            origin,
+            came,
             genome,
             children: 0,
             lives: true,
@@ -80,7 +67,7 @@ impl Node {
     pub(crate) fn parent(&self) -> Option<u64>
         ensures { result ≡ self.now.parent }
     {
-        self.parent
+        self.came.parent
     }
 
     pub(crate) fn genome(&self) -> &Genome
@@ -124,10 +111,10 @@ impl Node {
     {
         Ok(Link {
             id,
-            parent: self.parent,
-            update: self.update,
-            cell: self.cell,
-            origin: copy_of(alloc, &self.origin)?,
+            parent: self.came.parent,
+            update: self.came.update,
+            cell: self.came.cell,
+            origin: copy_of(alloc, &self.came.origin)?,
             genome: self.genome.copy(alloc)?,
         })
     }

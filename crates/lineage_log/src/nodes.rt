@@ -23,7 +23,7 @@ pub(crate) fn enter(nodes: &mut Nodes, newcomer: Ancestor) -> Result<(), Memory>
 {
     let _count = nodes.len();
     let id = newcomer.id;
-    let parent = newcomer.parent;
+    let parent = newcomer.came.parent;
     nodes.insert(id, Node::new(newcomer))?;
     if let Some(parent) = parent {
         gain_child(nodes, parent);

@@ -6,7 +6,7 @@ ghost use Rattle.mutations.specs.BirthRecord.{child_of, record_of};
 ghost use Rattle.lineage_log.specs.Ancestry.{line_of_descent, link_of};
 ghost use Rattle.lineage_log.specs.Trees.{CanCome, IsPruned, founded_by, genome_in_tree, tree_with_death, tree_with_newcomer};
 
-use crate::ancestor::Ancestor;
+use crate::ancestor::{Ancestor, Provenance};
 use crate::link::{Link, Path};
 use crate::nodes::{Nodes, bury, enter};
 use avida_port::Memory;
@@ -88,14 +88,14 @@ impl Tree {
         ensures err { OnErr result (self.new ≡ self.old) }
     {
         let child = self.child(alloc, parent, &origin)?;
-        self.enter(Ancestor {
-            id,
+        let came = Provenance {
             parent: Some(parent),
+            origin: Some(origin),
             update,
             cell,
-            origin: Some(origin),
-            genome: Arc::new(alloc, child)?,
-        })
+        };
+        let genome = Arc::new(alloc, child)?;
+        self.enter(Ancestor { id, came, genome })
     }
 
     /// A founder comes. If memory runs out, nothing changes.
@@ -117,14 +117,13 @@ impl Tree {
         })) }
         ensures err { OnErr result (self.new ≡ self.old) }
     {
-        self.enter(Ancestor {
-            id,
+        let came = Provenance {
             parent: None,
+            origin: None,
             update,
             cell,
-            origin: None,
-            genome,
-        })
+        };
+        self.enter(Ancestor { id, came, genome })
     }
 
     /// An organism dies. Those that are neither living nor ancestors of the living leave the tree.

@@ -17,7 +17,7 @@ use avida_port::Memory;
 use cell_shards::BoxedOrganism;
 use genome::Genome;
 use genotype_bank::Handle;
-use lineage_log::Ancestor;
+use lineage_log::{Ancestor, Provenance};
 use log_lines::Stats;
 use mutations::Origin;
 use random_streams::CELLS;
@@ -148,15 +148,14 @@ impl Scene {
           } ∷ [];
         }) }
     {
-        let ancestor = Ancestor {
-            id: self.next_id(),
+        let came = Provenance {
             parent,
+            origin,
             update: self.update,
             cell,
-            origin,
-            genome,
         };
-        self.everyone.push(ancestor)
+        let id = self.next_id();
+        self.everyone.push(Ancestor { id, came, genome })
     }
 
     /// Somebody with this id, whose genome has this number, stands in the cell, which was empty.
