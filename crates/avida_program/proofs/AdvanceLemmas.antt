@@ -1,13 +1,11 @@
 -- A run that is saved and advanced goes on, and updates add up.
-use Rattle.std.proofs.Common.{◌≡◌, ◌+◌, ◌∙◌, ap, refl, sym, ◌++◌, append_assoc, append-nil, ℕ, zero, suc, List, Ok, arith, add-zero}
-use Rattle.saved_worlds.specs.Resuming.{continued_text, later_texts, next_state, next_text, saved_state_after}
+use Rattle.std.proofs.Common.{◌≡◌, ◌+◌, ap, refl, ◌++◌, append_assoc, append-nil, ℕ, zero, suc, List, Ok, arith, add-suc, add-zero}
+use Rattle.saved_worlds.specs.Resuming.{continued_text, later_texts, saved_state_after}
 use Rattle.saved_worlds.specs.SavedGrammar.{saved_of}
 use Rattle.saved_worlds.specs.SavedState.{SavedState, state_of, state_of_world}
 use Rattle.saved_worlds.specs.SavedWorldText.{saved_text}
 use Rattle.world_config.specs.Values.{ConfigValues}
-use Rattle.world_rules.specs.LogText.{end_text}
 use Rattle.world_rules.specs.Settings.{rates_at}
-use Rattle.world_rules.specs.World.{World}
 use Rattle.world_rules.specs.WorldRun.{world_after}
 use Rattle.avida_program.specs.AdvancedRun.{AddsUp, AdvancesExactly, AdvancesInTwo, CanAdvanceInTwo, ResumesInTwo, longer_run}
 use Rattle.avida_program.specs.ResumedRun.{CanResume}
@@ -19,45 +17,27 @@ use Rattle.avida_program.proofs.SavedLemmas.{IsReadAs, read_again, reads_again}
 -- updates add up
 pub adds_up : (state : SavedState) (first second : ℕ) → AddsUp state first second
 unfolding saved_state_after
-adds_up state first zero = ap (saved_state_after state) (sym (add-zero first))
-adds_up state first (suc n) =
-    ap next_state (adds_up state first n) ∙ ap (saved_state_after state) (one_more first n)
-  where
-    one_more : (m k : ℕ) → suc (m + k) ≡ m + suc k
-    one_more m k = omega arith
+adds_up state first zero = rw add-zero refl
+adds_up state first (suc n) = rw (adds_up state first n, add-suc) refl
 
 -- and so do their texts
 texts_add_up : (state : SavedState) (first second : ℕ)
     → later_texts state first ++ later_texts (saved_state_after state first) second
     ≡ later_texts state (first + second)
-texts_add_up state first zero =
-    append-nil (later_texts state first) ∙ ap (later_texts state) (sym (add-zero first))
+texts_add_up state first zero = rw (append-nil, add-zero) refl
 texts_add_up state first (suc n) =
-    let between = saved_state_after state first in
-    sym (append_assoc (later_texts state first) (later_texts between n)
-    (next_text (saved_state_after between n)))
-    ∙ ap (λ texts. texts ++ next_text (saved_state_after between n)) (texts_add_up state first n)
-    ∙ ap (λ (s : SavedState). later_texts state (first + n) ++ next_text s) (adds_up state first n)
-    ∙ ap (later_texts state) (one_more first n)
-  where
-    one_more : (m k : ℕ) → suc (m + k) ≡ m + suc k
-    one_more m k = omega arith
+    rw (← append_assoc, texts_add_up state first n, adds_up state first n, add-suc) refl
 
 -- what is resumed in two parts
 pub resumes_in_two : (state : SavedState) (first second : ℕ) → ResumesInTwo state first second
 unfolding continued_text
 resumes_in_two state first second =
-    let between = saved_state_after state first in
-    let last : between.head.update + second ≡ state.head.update + (first + second) =
-    omega (arith, update_after state first) in
+    let last : (saved_state_after state first).head.update + second
+    ≡ state.head.update + (first + second) = omega (arith, update_after state first) in
     record {
       log = later_texts state first;
       is_log = refl;
-      goes_on = sym (append_assoc (later_texts state first) (later_texts between second)
-          (end_text (between.head.update + second)))
-          ∙ ap (λ texts. texts ++ end_text (between.head.update + second))
-          (texts_add_up state first second)
-          ∙ ap (λ n. later_texts state (first + second) ++ end_text n) last;
+      goes_on = rw (← append_assoc, texts_add_up state first second, last) refl;
     }
 
 -- what is advanced in two parts, where the world between is read again
@@ -75,20 +55,11 @@ advances_in_two bytes state first second so read again =
       goes_on = ap saved_text (adds_up state first second);
     }
 
--- the state of a world doesn't tell how long its run is
-states_same : (config : ConfigValues) (updates : ℕ) (w : World)
-    → state_of_world (record config { updates = updates }) w ≡ state_of_world config w
-unfolding rates_at
-states_same config updates w = refl
-
 -- the state that the longer run leaves
 longer_state : (config : ConfigValues) (more : ℕ) → state_of (longer_run config more)
     ≡ state_of_world config (world_after config (config.updates + more))
-unfolding state_of
-longer_state config more =
-    let updates = config.updates + more in
-    ap (state_of_world (longer_run config more)) (world_stays config updates updates)
-    ∙ states_same config updates (world_after config updates)
+unfolding state_of rates_at
+longer_state config more = rw (world_stays config (config.updates + more)) refl
 
 -- a run that is saved and advanced goes on
 pub run_advances : (config : ConfigValues) (more : ℕ) → CanResume config more
@@ -99,5 +70,5 @@ pub run_advances : (config : ConfigValues) (more : ℕ) → CanResume config mor
 run_advances config more can again goes = record {
   state = state_of config;
   reads = reads_again config more can again;
-  goes_on = ap saved_text (goes ∙ sym (longer_state config more));
+  goes_on = rw (goes, longer_state config more) refl;
 }
