@@ -1,6 +1,5 @@
 -- What `bench` counts of a run, and the configuration that it runs.
-use Rattle.std.proofs.Common.{◌≡◌, ◌∙◌, ◌+◌, ℕ, [], ◌++◌, Ok, OnErr, OnOk, refl, sym, ap, subst, length, length-append, arith, rules}
-use Rattle.std.proofs.lemmas.Bool.{false≢true}
+use Rattle.std.proofs.Common.{◌≡◌, ◌+◌, ℕ, [], ◌++◌, Ok, OnErr, OnOk, refl, ap, length, length-append, arith, rules}
 use Rattle.std.specs.Prelude.{codes, decimal}
 use Rattle.toml.specs.Data.{no_members}
 use Rattle.instruction_set.specs.Letter.{letter_of_byte}
@@ -14,7 +13,7 @@ use Rattle.world_config.specs.Lookup.{items_at, number_at}
 use Rattle.world_config.specs.Refusal.{refusal_at}
 use Rattle.world_config.specs.Values.{ConfigValues}
 use Rattle.world_core.specs.WorldValue.{WorldValue}
-use Rattle.world_rules.specs.LogText.{end_text, head_text, log_text, updates_text}
+use Rattle.world_rules.specs.LogText.{end_text, head_text, log_text}
 use Rattle.world_rules.specs.Statistics.{stats_of}
 use Rattle.written_texts.specs.SinkChanges.{Stays}
 use Rattle.logged_run.specs.RunSums.{IsEndOf}
@@ -29,33 +28,19 @@ use Rattle.avida_program.specs.Status.{Ended}
 use Rattle.avida_program.specs.Commands.{CarriesOut}
 use Rattle.avida_program.proofs.ReadEnds.{carried, text_caused}
 
--- the bytes of a log are those of its three parts
-log_bytes : (config : ConfigValues) (updates : ℕ)
-    → length (log_text config updates)
-    ≡ length (head_text config) + length (updates_text config updates) + length
-    (end_text updates)
-unfolding log_text
-log_bytes config updates =
-    length-append (head_text config ++ updates_text config updates) (end_text updates)
-    ∙ ap (λ n. n + length (end_text updates))
-    (length-append (head_text config) (updates_text config updates))
-
--- a document without keys gives the defaults
-defaults_are : config_in no_members ≡ Ok (values_in_table no_members [])
-unfolding letter_of_byte number_at items_at refusal_at
-defaults_are = refl
-
 -- the values that a document without keys gives are the defaults
 plain_values : (values : ConfigValues) → config_in no_members ≡ Ok values
     → values ≡ values_in_table no_members []
-plain_values values is = cc (is, defaults_are)
+unfolding letter_of_byte number_at items_at refusal_at
+plain_values values is =
+    let defaults : config_in no_members ≡ Ok (values_in_table no_members []) = refl in
+    cc (is, defaults)
 
 -- with a seed and 200 updates they are the configuration that `bench` runs
 pub bench_values : (seed : ℕ) (values : ConfigValues) → config_in no_members ≡ Ok values
     → record values { seed = seed; updates = 200 } ≡ bench_config seed
 unfolding bench_config
-bench_values seed values is =
-    ap (λ (v : ConfigValues). record v { seed = seed; updates = 200 }) (plain_values values is)
+bench_values seed values is = rw (plain_values values is) refl
 
 -- a list without events can stand in each configuration
 no_events : (frame : Frame) → AreEvents frame []
@@ -64,9 +49,7 @@ no_events frame = record { number = omega arith; fit = search rules; rising = se
 -- the defaults have no events
 pub events_fit : (values : ConfigValues) (frame : Frame) → config_in no_members ≡ Ok values
     → AreEvents frame values.event
-events_fit values frame is =
-    subst (AreEvents frame) (sym (ap (λ (v : ConfigValues). v.event) (plain_values values is)))
-    (no_events frame)
+events_fit values frame is = rw (plain_values values is) (no_events frame)
 
 -- the three lines of a run that came to this end
 pub sums_told : (world : WorldValue) (sums : Sums) (stats : Stats) (bytes : ℕ)
@@ -75,15 +58,12 @@ pub sums_told : (world : WorldValue) (sums : Sums) (stats : Stats) (bytes : ℕ)
     → line_text (Count stats)
     ++ codes "births " ++ decimal sums.births ++ codes "\n"
     ++ codes "bytes " ++ decimal bytes ++ codes "\n" ≡ sums_text world.config
-unfolding sums_text
+unfolding sums_text log_text
 sums_told world sums stats bytes so told long =
-    let config = world.config in
-    let counted : stats ≡ stats_of config config.updates =
-    told ∙ ap (stats_of config) so.final.update in
     let last = ap (λ n. length (end_text n)) so.final.update in
-    let all : bytes ≡ length (run_text config) =
-    omega (arith, long, last, so.summed.bytes.is, log_bytes config config.updates) in
-    rw (counted, so.summed.births.is, all) refl
+    let all : bytes ≡ length (run_text world.config) =
+    omega (arith, long, last, so.summed.bytes.is, length-append {A = ℕ}) in
+    rw (told, so.final.update, so.summed.births.is, all) refl
 
 -- `bench` ends so
 pub benched : (asked : Bench) (work : Work) (ended : Ended) → Stays work.source → Stays work.watch
@@ -93,5 +73,5 @@ pub benched : (asked : Bench) (work : Work) (ended : Ended) → Stays work.sourc
 benched asked work ended source watch wrote last left =
     let bench = command.Bench asked in
     carried bench work ended (text_caused bench refl work (bench_text asked.seed) ended wrote)
-    (λ is. watch) last (λ e. absurd (false≢true (sym e)))
+    (λ is. watch) last (λ e. absurd cc)
     (record { source_stays = source; writes = wrote; last_world = left })
