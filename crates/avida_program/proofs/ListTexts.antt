@@ -1,5 +1,5 @@
 -- The texts of a list's items, which go through a held piece one after another.
-use Rattle.std.proofs.Common.{◌≡◌, ◌<◌, ◌+◌, ℕ, List, [], ◌∷◌, ◌++◌, Result, Ok, Err, refl, sym, ap, ◌∙◌, add-one, append-nil, arith, subst, map, take, drop, get_or, length, take-append-drop}
+use Rattle.std.proofs.Common.{◌≡◌, ◌<◌, ◌+◌, ℕ, List, [], ◌++◌, Result, Ok, Err, refl, add-one, append-nil, arith, take, drop, get_or, length, take-append-drop}
 use Rattle.std.proofs.Math.Seq.{take-suc}
 use Rattle.std.specs.List.{flat_map}
 use Rattle.std.proofs.lemmas.Grind.{flat_map-append}
@@ -15,23 +15,12 @@ use Rattle.avida_program.proofs.TextEnds.{stopped_within, wanting_within}
 -- one more text
 texts_next : {X : Type 0} (text : X → List ℕ) (xs : List X) (i : ℕ) (d : X) → i < length xs
     → flat_map text (take (i + 1) xs) ≡ flat_map text (take i xs) ++ text (get_or xs i d)
-texts_next text xs i d h =
-    rw add-one
-    (ap (flat_map text) (take-suc xs i d h)
-    ∙ flat_map-append text (take i xs) (get_or xs i d ∷ [])
-    ∙ ap (λ l. flat_map text (take i xs) ++ l) (append-nil (text (get_or xs i d))))
+texts_next text xs i d h = rw (add-one, take-suc xs i d h, flat_map-append, append-nil) refl
 
 -- the texts up to an item, and those from it on
 texts_cut : {X : Type 0} (text : X → List ℕ) (xs : List X) (i : ℕ)
     → flat_map text (take i xs) ++ flat_map text (drop i xs) ≡ flat_map text xs
-texts_cut text xs i =
-    sym (flat_map-append text (take i xs) (drop i xs)) ∙ ap (flat_map text) (take-append-drop i xs)
-
--- the texts of the items' values
-pub texts_of_values : {X Y : Type 0} (text : Y → List ℕ) (value : X → Y) (xs : List X)
-    → flat_map text (map value xs) ≡ flat_map (λ x. text (value x)) xs
-texts_of_values text value [] = refl
-texts_of_values text value (x ∷ xs) = ap (λ l. text (value x) ++ l) (texts_of_values text value xs)
+texts_cut text xs i = rw (← flat_map-append, take-append-drop) refl
 
 -- the text of the item at this place is written, or stopped
 pub next_written : {X : Type 0} {a b c : SinkState} {old kept new : List ℕ}
@@ -39,9 +28,8 @@ pub next_written : {X : Type 0} {a b c : SinkState} {old kept new : List ℕ}
     → Writes a b old kept (flat_map text (take i xs)) (Ok tt)
     → Writes b c kept new (text (get_or xs i d)) r → i < length xs
     → Writes a c old new (flat_map text (take (i + 1) xs)) r
-next_written {a = a} {c = c} {old = old} {new = new} {r = r} text xs i d p q h =
-    subst (λ l. Writes a c old new l r) (sym (texts_next text xs i d h))
-    (writes_then (text (get_or xs i d)) p q)
+next_written text xs i d p q h =
+    rw (texts_next text xs i d h) (writes_then (text (get_or xs i d)) p q)
 
 -- one more text is written, or stopped
 pub item_written : {X : Type 0} {a b c : SinkState} {old kept new put : List ℕ}
@@ -49,17 +37,15 @@ pub item_written : {X : Type 0} {a b c : SinkState} {old kept new put : List ℕ
     → Writes a b old kept (flat_map text (take i xs)) (Ok tt) → Writes b c kept new put r
     → put ≡ text x
     → x ≡ get_or xs i x → i < length xs → Writes a c old new (flat_map text (take (i + 1) xs)) r
-item_written {b = b} {c = c} {kept = kept} {new = new} {r = r} text xs i x p q shows is h =
-    next_written text xs i x p (subst (λ l. Writes b c kept new l r) (shows ∙ ap text is) q) h
+item_written text xs i x p q shows is h =
+    next_written text xs i x p (rw (← is, ← shows) q) h
 
 -- a put failed, and the texts behind this item were still to come
 pub item_short : {X : Type 0} {a c : SinkState} {old new other : List ℕ} {e : SinkStop}
     (text : X → List ℕ) (xs : List X) (i : ℕ)
     → Writes a c old new (flat_map text (take i xs)) (Err e)
     → Writes a c old other (flat_map text xs) (Err e)
-item_short {a = a} {c = c} {old = old} {other = other} {e = e} text xs i p =
-    subst (λ l. Writes a c old other l (Err e)) (texts_cut text xs i)
-    (writes_short (flat_map text (drop i xs)) p)
+item_short text xs i p = rw (← texts_cut text xs i) (writes_short (flat_map text (drop i xs)) p)
 
 -- a put stopped within the texts
 pub item_stopped : {X : Type 0} {a c : SinkState} {new : List ℕ} {e : SinkStop} (text : X → List ℕ)
@@ -79,7 +65,4 @@ items_wanting text xs i p =
 pub items_whole : {X : Type 0} {a b : SinkState} {kept : List ℕ} (text : X → List ℕ) (xs : List X)
     (i : ℕ) → Writes a b [] kept (flat_map text (take i xs)) (Ok tt) → i ≡ length xs
     → Writes a b [] kept (flat_map text xs) (Ok tt)
-items_whole {a = a} {b = b} {kept = kept} text xs i p at_end =
-    let full : take i xs ≡ xs =
-    ap (λ n. take n xs) at_end ∙ take_all (length xs) xs (omega arith) in
-    subst (λ l. Writes a b [] kept (flat_map text l) (Ok tt)) full p
+items_whole text xs i p at_end = rw (at_end, take_all (length xs) xs (omega arith)) at p

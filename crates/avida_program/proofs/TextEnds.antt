@@ -1,5 +1,5 @@
 -- How a text that goes through a piece ends.
-use Rattle.std.proofs.Common.{◌≡◌, ◌∙◌, Result, Ok, Err, List, ℕ, [], ◌++◌, append_assoc, ap, sym, subst}
+use Rattle.std.proofs.Common.{◌≡◌, ◌∙◌, Result, Ok, Err, List, ℕ, [], ◌++◌, append_assoc, ap, sym}
 use Rattle.avida_port.specs.Ports.{SinkState, Puts}
 use Rattle.avida_port.specs.declared.sink.SinkStop.{SinkStop}
 use Rattle.written_texts.specs.Pieces.{Writes}
@@ -18,9 +18,8 @@ text_put p = record { ok = p.ok; err = tt; fault = tt; counts = p.counts }
 pub rest_put : {a b c : SinkState} {kept held : List ℕ} {r : Result (Unit {0}) WriteStop}
     (text : List ℕ) → Writes a b [] kept text (Ok tt) → held ≡ kept → WritesAll b c held r
     → WritesAll a c text r
-rest_put {a = a} {b = b} {c = c} {kept = kept} {r = r} text p is q =
-    let rest = subst (λ l. WritesAll {T = Unit {0}} b c l r) is q in
-    subst (λ l. WritesAll {T = Unit {0}} a c l r) p.ok.1 (writes_then kept (text_put p.ok.2) rest)
+rest_put {kept = kept} text p is q =
+    rw (← p.ok.1) (writes_then kept (text_put p.ok.2) (rw (← is) q))
 
 -- memory ran out within a text
 pub wanting_within : {a b : SinkState} {kept front : List ℕ} (rest all : List ℕ)
