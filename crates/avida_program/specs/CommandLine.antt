@@ -6,6 +6,7 @@ use Rattle.avida_program.specs.declared.command.Command.{Command}
 use Rattle.avida_program.specs.declared.command.Command.TheVariants.{Trace, Run, Lineage, Bench, Assay, Save, Resume, Advance, Replay, Upgrade, Tree, Landscape}
 use Rattle.avida_program.specs.declared.command.Spelling.{Spelling}
 use Rattle.avida_program.specs.declared.command.Spelling.TheVariants.{Letters, Names}
+use Rattle.command_line.specs.Rows.{assay_row, landscape_row, nothing_row, run_row, save_row, told_by_row, trace_row}
 
 -- the spelling of a genome, where `--org` stands or not
 abbrev pub spelling_of : Bool → Spelling
@@ -13,17 +14,17 @@ spelling_of org = if org then Names else Letters
 
 -- a command that takes no words
 abbrev pub bare_command : Command → List (List ℕ) → Option Command
-bare_command command words = option_map (λ nothing. command) (told.nothing_told words)
+bare_command command words = option_map (λ nothing. command) (told_by_row nothing_row words)
 
 -- the command of a name, with what the words after it tell it
 abbrev pub command_named : List ℕ → List (List ℕ) → Option Command
 command_named name words =
-    if bytes_eq name (codes "trace") then option_map Trace (told.trace_told words)
-    else if bytes_eq name (codes "run") then option_map Run (told.run_told words)
+    if bytes_eq name (codes "trace") then option_map Trace (told_by_row trace_row words)
+    else if bytes_eq name (codes "run") then option_map Run (told_by_row run_row words)
     else if bytes_eq name (codes "lineage") then option_map Lineage (told.lineage_told words)
     else if bytes_eq name (codes "bench") then option_map Bench (told.bench_told words)
-    else if bytes_eq name (codes "assay") then option_map Assay (told.assay_told words)
-    else if bytes_eq name (codes "save") then option_map Save (told.save_told words)
+    else if bytes_eq name (codes "assay") then option_map Assay (told_by_row assay_row words)
+    else if bytes_eq name (codes "save") then option_map Save (told_by_row save_row words)
     else if bytes_eq name (codes "resume")
     then option_map Resume (told.further_updates_told words)
     else if bytes_eq name (codes "advance")
@@ -32,7 +33,7 @@ command_named name words =
     else if bytes_eq name (codes "upgrade") then bare_command Upgrade words
     else if bytes_eq name (codes "tree") then bare_command Tree words
     else if bytes_eq name (codes "landscape")
-    then option_map Landscape (told.landscape_told words)
+    then option_map Landscape (told_by_row landscape_row words)
     else None
 
 -- the first word is the name, and the words after it are read by its form

@@ -10,20 +10,21 @@ use Rattle.clap.specs.Walk.{Text}
 use Rattle.clap.specs.Simple.{is_simple}
 use Rattle.clap.specs.Faults.{is_simple_and_free}
 use Rattle.command_line.specs.Form.{Told, are_distinct, option_names}
-use Rattle.command_line.specs.Words.{begins_dashed, has_dashed, is_dashed, is_set}
+use Rattle.command_line.specs.Words.{begins_dashed, has_dashed, is_dashed}
 use Rattle.command_line.specs.Numbers.{is_comma, three_numbers_of}
-use Rattle.command_line.specs.Commands.{assay_form, assay_of, assay_with, bare_form, inputs_of_value, landscape_form, nothing_of, numbers_with, positional_form, positional_number_at, positional_of, run_form, run_of, run_with, trace_form, trace_of, trace_with, workers_at, workers_form}
+use Rattle.command_line.specs.Commands.{assay_of, assay_with, positional_form, positional_number_at, positional_of, run_of, run_with, trace_of, workers_at, workers_form}
 use Rattle.command_line.specs.Parsers.{app_by}
 use Rattle.command_line.specs.Reading.{IsOf, IsReadableRow, NoMinus}
 use Rattle.command_line.specs.Rows.{CommandRow, assay_row, landscape_row, nothing_row, positional_row, run_row, save_row, trace_row}
+use Rattle.command_line.specs.declared.trace.Trace.{Trace}
 
 -- a command that takes no words has no text that could begin with `-`
-nothing_refuses : NoMinus → (told : Told) → IsOf bare_form told → has_dashed told ≡ true
-    → nothing_of told ≡ None
+nothing_refuses : NoMinus → (told : Told) → IsOf nothing_row.form told → has_dashed told ≡ true
+    → nothing_row.take told ≡ None
 nothing_refuses no_minus told is d = go told.positionals told.values is.positionals is.values d
   where
     go : (ps : List Text) (vs : List (Option Text)) → length ps ≡ 0 → length vs ≡ 0
-        → (list_any begins_dashed ps || list_any is_dashed vs) ≡ true → nothing_of told ≡ None
+        → (list_any begins_dashed ps || list_any is_dashed vs) ≡ true → nothing_row.take told ≡ None
     go [] [] n m d = cc
     go _ _ n m d = absurd (omega arith)
 
@@ -97,21 +98,20 @@ module _ (no_minus : NoMinus) where
       go _ _ n m d = absurd (omega arith)
 
   -- `trace` refuses steps or inputs that begin with `-`
-  trace_refuses : (told : Told) → IsOf trace_form told → has_dashed told ≡ true
+  trace_refuses : (told : Told) → IsOf trace_row.form told → has_dashed told ≡ true
       → trace_of told ≡ None
   trace_refuses told is d =
       pair_refuses trace_of told (λ p v a. rw (dashed_number 0 1000000 p a) refl)
-      (λ p v b. none_after (trace_with (is_set told.flags 0) (inputs_of_value v))
-      (number_of 0 1000000 p) (λ steps. no_inputs (is_set told.flags 0) v steps b))
+      (λ p v b. none_after _ (number_of 0 1000000 p) (λ steps. no_inputs _ v b))
       is.positionals is.values d
     where
-      no_inputs : (org : Bool) (value : Option Text) (steps : ℕ) → is_dashed value ≡ true
-          → trace_with org (inputs_of_value value) steps ≡ None
-      no_inputs org None steps d = cc
-      no_inputs org (Some text) steps d = rw (dashed_numbers 16777215 text d) refl
+      no_inputs : (f : List ℕ → Trace) (value : Option Text) → is_dashed value ≡ true
+          → option_map f (option_and_then (three_numbers_of 16777215) value) ≡ None
+      no_inputs f None d = cc
+      no_inputs f (Some text) d = rw (dashed_numbers 16777215 text d) refl
 
   -- `landscape` refuses steps that begin with `-`
-  landscape_refuses : (told : Told) → IsOf landscape_form told → has_dashed told ≡ true
+  landscape_refuses : (told : Told) → IsOf landscape_row.form told → has_dashed told ≡ true
       → positional_number_at 1 100000 0 told ≡ None
   landscape_refuses told is d =
       text_refuses (positional_number_at 1 100000 0) told (dashed_number 1 100000) is.positionals
@@ -129,7 +129,7 @@ module _ (no_minus : NoMinus) where
       go _ _ n m d = absurd (omega arith)
 
   -- the workers and the looks
-  run_refuses : (told : Told) → IsOf run_form told → has_dashed told ≡ true → run_of told ≡ None
+  run_refuses : (told : Told) → IsOf run_row.form told → has_dashed told ≡ true → run_of told ≡ None
   run_refuses told is d =
       go told.positionals told.values told.flags is.positionals is.values d
     where
@@ -153,13 +153,12 @@ module _ (no_minus : NoMinus) where
       → has_dashed told ≡ true → positional_of greatest told ≡ None
   positional_refuses greatest told is d =
       pair_refuses (positional_of greatest) told (λ p v a. rw (dashed_number 0 greatest p a) refl)
-      (λ p v b. none_after (λ number. option_map (numbers_with number)
-      (option_and_then (number_of 1 64) v)) (number_of 0 greatest p)
-      (λ number. ap (option_map (numbers_with number)) (dashed_text 1 64 v b)))
+      (λ p v b. none_after _ (number_of 0 greatest p)
+      (λ number. ap (option_map _) (dashed_text 1 64 v b)))
       is.positionals is.values d
 
   -- `assay` refuses a count, a first seed or workers that begin with `-`
-  assay_refuses : (told : Told) → IsOf assay_form told → has_dashed told ≡ true
+  assay_refuses : (told : Told) → IsOf assay_row.form told → has_dashed told ≡ true
       → assay_of told ≡ None
   assay_refuses told is d =
       go told.positionals told.values told.flags is.positionals is.values d

@@ -23,14 +23,11 @@ abbrev pub begins_dashed : List ℕ → Bool
 begins_dashed [] = false
 begins_dashed (byte ∷ bytes) = byte == 45
 
--- a word other than `--`, of which this is the name and the value
-abbrev pub other_word : Option (List ℕ × Option (List ℕ)) → List ℕ → Word
-other_word (Some name) word = names name.0 name.1
-other_word None word = if begins_dashed word then dashed else plain
-
 -- what this word is
 abbrev pub kind_of_word : List ℕ → Word
-kind_of_word word = if bytes_eq word (codes "--") then ends else other_word (long_of word) word
+kind_of_word word = if bytes_eq word (codes "--") then ends else
+    option_map_or (λ name. names name.0 name.1) (long_of word)
+    (if begins_dashed word then dashed else plain)
 
 -- what the words so far have given, in the form's order
 pub record Given : Type 0 where
@@ -41,16 +38,6 @@ pub record Given : Type 0 where
   pub positionals : List (List ℕ)
   pub values : List (Option (List ℕ))
   pub flags : List Bool
-
--- no words
-abbrev pub nothing_given : Form → Given
-nothing_given form = record {
-  ended = false;
-  waits = None;
-  positionals = [];
-  values = map (λ option. None) form.options;
-  flags = map (λ flag. false) form.flags;
-}
 
 -- the flag at this place stands
 abbrev pub is_set : List Bool → ℕ → Bool
@@ -125,7 +112,13 @@ read_from form given (word ∷ words) = option_and_then (λ next. read_from form
 
 -- what the words tell by the form, from left to right; none where they break a rule
 abbrev pub told_by : Form → List (List ℕ) → Option Told
-told_by form words = read_from form (nothing_given form) words
+told_by form words = read_from form (record {
+  ended = false;
+  waits = None;
+  positionals = [];
+  values = map (λ option. None) form.options;
+  flags = map (λ flag. false) form.flags;
+}) words
 
 -- the value begins with `-`
 abbrev pub is_dashed : Option (List ℕ) → Bool

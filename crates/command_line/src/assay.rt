@@ -1,8 +1,7 @@
 // The words of `assay`.
 ghost use Rattle.std.specs.Prelude.{◌<◌, length};
-ghost use Rattle.command_line.specs.Commands.{assay_told};
 ghost use Rattle.command_line.specs.Refusals.{IsTold};
-ghost use Rattle.command_line.specs.Rows.{assay_row};
+ghost use Rattle.command_line.specs.Rows.{assay_row, told_by_row};
 
 use crate::numbers::{number_in, wide_number_in};
 use crate::reading::{Arguments, read};
@@ -53,7 +52,7 @@ impl Arguments for Assay {
 #[tactic(auto, using(crate::proofs::CommandForms::assay_reads))]
 pub fn read_assay(alloc: Global, words: &[String]) -> Result<Assay, Refused>
     requires { 0 < length words.now }
-    ensures { IsTold assay_told words.now result }
+    ensures { IsTold (told_by_row assay_row) words.now result }
 {
     read::<Assay>(alloc, words)
 }

@@ -1,8 +1,7 @@
 // The words of `landscape`.
 ghost use Rattle.std.specs.Prelude.{◌<◌, length};
-ghost use Rattle.command_line.specs.Commands.{landscape_told};
 ghost use Rattle.command_line.specs.Refusals.{IsTold};
-ghost use Rattle.command_line.specs.Rows.{landscape_row};
+ghost use Rattle.command_line.specs.Rows.{landscape_row, told_by_row};
 
 use crate::numbers::number_in;
 use crate::reading::{Arguments, read};
@@ -37,7 +36,7 @@ impl Arguments for Landscape {
 #[tactic(auto, using(crate::proofs::CommandForms::landscape_reads))]
 pub fn read_landscape(alloc: Global, words: &[String]) -> Result<u32, Refused>
     requires { 0 < length words.now }
-    ensures { IsTold landscape_told words.now result }
+    ensures { IsTold (told_by_row landscape_row) words.now result }
 {
     read::<Landscape>(alloc, words)
 }

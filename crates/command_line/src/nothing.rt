@@ -1,8 +1,7 @@
 // The words of a command that takes none.
 ghost use Rattle.std.specs.Prelude.{◌<◌, length};
-ghost use Rattle.command_line.specs.Commands.{nothing_told};
 ghost use Rattle.command_line.specs.Refusals.{IsTold};
-ghost use Rattle.command_line.specs.Rows.{nothing_row};
+ghost use Rattle.command_line.specs.Rows.{nothing_row, told_by_row};
 
 use crate::reading::{Arguments, read};
 use crate::refused::Refused;
@@ -30,7 +29,7 @@ impl Arguments for Nothing {
 #[tactic(auto, using(crate::proofs::CommandForms::nothing_reads))]
 pub fn read_nothing(alloc: Global, words: &[String]) -> Result<(), Refused>
     requires { 0 < length words.now }
-    ensures { IsTold nothing_told words.now result }
+    ensures { IsTold (told_by_row nothing_row) words.now result }
 {
     read::<Nothing>(alloc, words)
 }

@@ -1,8 +1,8 @@
 // The words of `run`.
 ghost use Rattle.std.specs.Prelude.{◌≡◌, ◌<◌, length, option_map};
-ghost use Rattle.command_line.specs.Commands.{run_told, run_with};
+ghost use Rattle.command_line.specs.Commands.{run_with};
 ghost use Rattle.command_line.specs.Refusals.{IsTold};
-ghost use Rattle.command_line.specs.Rows.{run_row};
+ghost use Rattle.command_line.specs.Rows.{run_row, told_by_row};
 
 use crate::numbers::{spelled, text_in};
 use crate::reading::{Arguments, read};
@@ -52,7 +52,7 @@ impl Arguments for Run {
 #[tactic(auto, using(crate::proofs::CommandForms::run_reads))]
 pub fn read_run(alloc: Global, words: &[String]) -> Result<Run, Refused>
     requires { 0 < length words.now }
-    ensures { IsTold run_told words.now result }
+    ensures { IsTold (told_by_row run_row) words.now result }
 {
     read::<Run>(alloc, words)
 }

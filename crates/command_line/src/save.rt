@@ -1,8 +1,7 @@
 // The words of `save`.
 ghost use Rattle.std.specs.Prelude.{◌<◌, length};
-ghost use Rattle.command_line.specs.Commands.{save_told};
 ghost use Rattle.command_line.specs.Refusals.{IsTold};
-ghost use Rattle.command_line.specs.Rows.{save_row};
+ghost use Rattle.command_line.specs.Rows.{save_row, told_by_row};
 
 use crate::reading::{Arguments, read};
 use crate::refused::Refused;
@@ -31,7 +30,7 @@ impl Arguments for Save {
 #[tactic(auto, using(crate::proofs::CommandForms::save_reads))]
 pub fn read_save(alloc: Global, words: &[String]) -> Result<u32, Refused>
     requires { 0 < length words.now }
-    ensures { IsTold save_told words.now result }
+    ensures { IsTold (told_by_row save_row) words.now result }
 {
     read::<Save>(alloc, words)
 }

@@ -1,10 +1,9 @@
 // The words of `trace`.
 ghost use Rattle.std.specs.Prelude.{◌≡◌, ◌<◌, [], IfOk, codes, length};
 ghost use Rattle.clap.specs.Words.{app_of};
-ghost use Rattle.command_line.specs.Commands.{inputs_form, trace_told};
 ghost use Rattle.command_line.specs.Parsers.{app_by};
 ghost use Rattle.command_line.specs.Refusals.{IsTold};
-ghost use Rattle.command_line.specs.Rows.{trace_row};
+ghost use Rattle.command_line.specs.Rows.{trace_row, told_by_row};
 
 use crate::numbers::{number_in, text_in, three_numbers};
 use crate::reading::{Arguments, read};
@@ -29,7 +28,8 @@ pub struct Trace {
 
 /// The command with `--inputs`.
 fn inputs_command<'a>(alloc: Global) -> Result<Command<'a>, AllocError>
-    ensures { IfOk result (λ c. app_of c ≡ app_by (codes "trace") inputs_form []) }
+    ensures { IfOk result (λ c. app_of c ≡ app_by (codes "trace")
+        (record trace_row.form { flags = []; positionals = 0 }) []) }
 {
     let inputs = Arg::new(alloc, "inputs")
         .long("inputs")
@@ -66,7 +66,7 @@ impl Arguments for Trace {
 #[tactic(auto, using(crate::proofs::CommandForms::trace_reads))]
 pub fn read_trace(alloc: Global, words: &[String]) -> Result<Trace, Refused>
     requires { 0 < length words.now }
-    ensures { IsTold trace_told words.now result }
+    ensures { IsTold (told_by_row trace_row) words.now result }
 {
     read::<Trace>(alloc, words)
 }
