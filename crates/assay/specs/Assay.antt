@@ -13,8 +13,7 @@ abbrev pub dominant_after : ConfigValues → ℕ → Option (List Letter)
 dominant_after config updates =
     option_map (λ d. d.genome) (dominant_of (world_after config updates).cells)
 
--- what became of a seed's run: its births and deaths, what is counted after the last update, and
--- the dominant genome then
+-- what became of a seed's run: births, deaths, the last update's counts, the dominant genome then
 pub record AssayValue : Type 0 where
   pub seed : ℕ
   pub births : ℕ

@@ -7,8 +7,7 @@ use Rattle.log_lines.specs.LineText.{words_text}
 use Rattle.world_config.specs.Values.{ConfigValues}
 use Rattle.assay.specs.Assay.{AssayValue, assay_list, seeds_with_each}
 
--- the seed, the living, the births, the deaths, the genotypes, the sum of the merits, and the
--- nine task counts
+-- seed, living, births, deaths, genotypes, sum of the merits, and the nine task counts
 abbrev pub assay_numbers : AssayValue → List ℕ
 assay_numbers a =
     a.seed ∷ a.last.living ∷ a.births ∷ a.deaths ∷ a.last.genotypes ∷ a.last.merit ∷ a.last.tasks

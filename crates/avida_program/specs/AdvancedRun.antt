@@ -12,8 +12,7 @@ use Rattle.avida_program.specs.SaveText.{advanced_text, save_text}
 abbrev pub longer_run : ConfigValues → ℕ → ConfigValues
 longer_run config more = record config { updates = config.updates + more }
 
--- `advance` reads what `save` writes of a run, and writes what `save` writes of the run so much
--- longer
+-- `advance` reads what `save` writes of a run, and writes what it writes of the run so much longer
 pub record AdvancesExactly (config : ConfigValues) (more : ℕ) : Type 0 where
   pub state : SavedState
   pub reads : resume_input_of more (save_text config) ≡ Ok state
@@ -25,8 +24,7 @@ AddsUp state first second =
     saved_state_after (saved_state_after state first) second
     ≡ saved_state_after state (first + second)
 
--- what `resume` writes of some updates without its last line, and then what it writes of some more
--- once the world is advanced, is what it writes of all of them
+-- `resume` of some updates, less its last line, then of more once advanced, writes that of all
 pub record ResumesInTwo (state : SavedState) (first second : ℕ) : Type 0 where
   pub log : List ℕ
   pub is_log : log ++ end_text (state.head.update + first) ≡ continued_text state first

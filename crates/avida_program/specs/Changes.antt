@@ -27,8 +27,7 @@ SourceFailed source = Rose source.before.faults source.after.faults
 abbrev pub SinkStopped : Change SinkState → Type 0
 SinkStopped sink = SinkFailed sink ⊎ Rose sink.before.wants sink.after.wants
 
--- a text is written whole, or a prefix of it where a put fails or memory runs out; nothing else ends
--- the call
+-- a text is written whole, or a prefix where a put fails or memory runs out; nothing else ends it
 abbrev pub WritesText : List ℕ → Change SinkState → Ended → Type 0
 WritesText text out (Ok done) = GainedText out text
 WritesText text out (Err error.WriteFault) = SinkFailed out × GainedFront out text

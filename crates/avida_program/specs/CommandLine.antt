@@ -53,8 +53,7 @@ leaves_world (Lineage lineage) = true
 leaves_world (Bench bench) = true
 leaves_world _ = false
 
--- a command that runs worlds has from 1 to 64 workers for each, `bench` has a seed of a
--- configuration, and `assay` has from 1 to 64 of them
+-- there are from 1 to 64 workers a world; `bench` has a configuration's seed, `assay` from 1 to 64
 abbrev pub HasNumbersInRange : Command → Type 0
 HasNumbersInRange (Run run) = (1 ≤ run.workers) × (run.workers ≤ 64)
 HasNumbersInRange (Lineage lineage) = (1 ≤ lineage.workers) × (lineage.workers ≤ 64)

@@ -59,8 +59,7 @@ with_cell cell (Err why) = Err why
 abbrev pub lineage_input_of : ℕ → List ℕ → Result ConfigValues Refusal
 lineage_input_of cell bytes = with_cell cell (configuration_of bytes)
 
--- a configuration, unless so many of its worlds have more cells than run side by side; what
--- refuses the configuration comes first
+-- a configuration, or its refusal, or that so many worlds have more cells than run side by side
 abbrev pub with_worlds : ℕ → Result ConfigValues Refusal → Result ConfigValues Refusal
 with_worlds count (Ok config) =
     let cells = count * config.width * config.height in
@@ -83,8 +82,7 @@ abbrev pub ReadsLines : List ℕ → Result (List Line) Refusal → Type 0
 ReadsLines bytes answer = (read : Result (List Line) LogStop) × ReadsLog bytes read
     × (unless_too_long 536870912 bytes (refused_as Log read) ≡ answer)
 
--- the bytes are a saved world in this state, of which so many more updates are asked for, or are
--- refused for this
+-- the bytes are a saved world in this state that may go on for so many updates, or are refused
 abbrev pub ReadsState : ℕ → List ℕ → Result SavedState Refusal → Type 0
 ReadsState more bytes answer = (read : Result SavedState SavedStop) × ReadsSaved bytes read
     × (with_more more (unless_too_long 536870912 bytes (refused_as Saved read)) ≡ answer)

@@ -12,8 +12,7 @@ use Rattle.birth_board.specs.Torus.{TorusNumbers, cells_of, neighbours_of}
 abbrev pub is_free : List (Option ℕ) → ℕ → Bool
 is_free occupants cell = is_none (slice_index_or occupants cell None)
 
--- the cells among which the word chooses: the empty neighbours where these are preferred and there
--- are any, else all eight
+-- the cells to choose from: empty neighbours, if preferred and there are any, else all eight
 abbrev pub choices_of : TorusNumbers → Bool → List (Option ℕ) → ℕ → List ℕ
 choices_of torus prefer_empty occupants parent =
     let free = filter (is_free occupants) (neighbours_of torus parent) in
@@ -30,14 +29,13 @@ chosen_cell torus prefer_empty occupants parent word =
 
 -- the stream of a cell's newborns, of which so many words were taken
 abbrev pub place_stream : PlacingRound → ℕ → ℕ → Stream
-place_stream round cell taken =
-    record {
-      seed = round.seed;
-      update = round.update;
-      cell = cell;
-      purpose = Place;
-      taken = taken;
-    }
+place_stream round cell taken = record {
+  seed = round.seed;
+  update = round.update;
+  cell = cell;
+  purpose = Place;
+  taken = taken;
+}
 
 -- the four words of newborn `nth` of a cell, from 0
 abbrev pub placing_words : PlacingRound → ℕ → ℕ → List ℕ
@@ -89,8 +87,7 @@ placements_of torus parents occupants round =
     fold (next_board torus round) (record { occupants = occupants; placings = []; parents = [] })
     parents
 
--- what a placing needs: a slot for each cell, parents in the torus in the order of their cells,
--- and ids that fit 63 bits
+-- what a placing needs: a slot a cell, parents in the torus in order of cells, ids that fit 63 bits
 pub record CanPlace (torus : TorusNumbers) (parents : List ℕ) (occupants : List (Option ℕ))
     (round : PlacingRound) : Type 0 where
   pub cells : length occupants ≡ cells_of torus

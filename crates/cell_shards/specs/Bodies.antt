@@ -1,7 +1,6 @@
--- Who stands in a cell (docs/ARCHITECTURE.md, "Shards"). A newborn that comes into a cell where
--- somebody stood is made in the memory of who stood there, by the thread that runs it first. For
--- example, between two updates a body has the organism that was there and what the newborn begins
--- with; whoever looks sees the newborn.
+-- Who stands in a cell (docs/ARCHITECTURE.md, "Shards"). A newborn that comes where somebody stood
+-- is made in that one's memory, by the thread that runs it first; until then a body has who was
+-- there and what the newborn begins with, and whoever looks sees the newborn.
 use Rattle.std.specs.Prelude.{◌≤◌, None, Option, Some, length}
 use Rattle.genome.specs.Genome.{letters}
 use Rattle.organism.specs.OrganismState.{OrganismState, new_organism}

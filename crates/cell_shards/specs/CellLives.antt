@@ -23,8 +23,7 @@ abbrev pub round_numbers : Round → RoundNumbers
 round_numbers round =
     record { seed = round.seed; update = round.update; settings = setting_numbers round.settings }
 
--- the life of who stands in a cell, with the run stream of this cell and update, of at most so many
--- steps
+-- the life of who is in a cell, by the run stream of cell and update, of at most so many steps
 abbrev pub shard_life_of : RoundNumbers → ℕ → ℕ → Option OrganismState → OrganismLife
 shard_life_of round cell steps slot =
     life_by round.settings (draw round.seed round.update cell Run) steps slot

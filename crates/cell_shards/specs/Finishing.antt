@@ -1,7 +1,6 @@
--- What the jobs of an update come to (docs/ARCHITECTURE.md, "Shards"). A job has the cells of a
--- shard, and a seat at the bank that numbers genomes. For example, if the organism of cell 41 bore
--- a child and died of age, then cell 41 is left empty, 41 is among the cells of the dead, and the
--- child is delivered with 41 as its parent's cell.
+-- What an update's jobs come to (docs/ARCHITECTURE.md, "Shards"). A job has a shard's cells and a
+-- seat at the bank that numbers genomes. For example, if the organism of cell 41 bore a child and
+-- died of age, 41 is left empty and among the dead, and the child's parent is at cell 41.
 use Rattle.std.specs.Prelude.{◌≡◌, ℕ, ◌+◌, ◌<◌, ◌≤◌, ◌^◌, ◌++◌, All, List, [], ◌∷◌, Option, Some, length, map, slice_get, slice_index_or}
 use mathlib.Core.List.{IsPrefix}
 use Rattle.genome.specs.Genome.{letters}
@@ -26,8 +25,7 @@ use Rattle.cell_shards.specs.declared.lives.Left.{Left}
 abbrev pub part_of : Job → Part
 part_of job = part_from job.first job.cells job.slices
 
--- the cells of a job are in a world, each has few steps, and no organism is too old for another
--- update
+-- a job's cells are in a world, each with few steps, and no organism too old for another update
 pub record CanRun (job : Job) : Type 0 where
   pub within : job.first + length job.cells ≤ 65536
   pub each : length job.slices ≡ length job.cells
@@ -61,9 +59,7 @@ pub record IsNumbered (history : List Entry) (d : Delivered) : Type 0 where
   pub place : slice_get (genotypes_of history) d.handle.number ≡ Some (genome_in d)
   pub small : d.handle.number < 2 ^ 63
 
--- a seat has seen what it had seen and more, its own calls are those that it had and then those
--- that interned these newborns' genomes, in their order, and its bank and its share are what they
--- were
+-- a seat has seen more, has itself interned these newborns' genomes in order; bank and share stay
 pub record HasInterned (old new : SeatValue) (births : List Delivered) : Type 0 where
   pub bank : new.bank ≡ old.bank
   pub share : new.share ≡ old.share
@@ -73,15 +69,13 @@ pub record HasInterned (old new : SeatValue) (births : List Delivered) : Type 0 
   pub interned : map (λ call. call.call) calls ≡ map call_for births
   pub numbers : All (IsNumbered new.seen) births
 
--- the newborns of a cell are delivered behind others, and the seat that had interned those has
--- interned them too
+-- a cell's newborns are delivered behind others, and the seat that interned those interned them
 pub record AreDelivered (cell : ℕ) (newborns : List NewbornValue) (old new : SeatValue)
     (before after : List Delivered) : Type 0 where
   pub births : map birth_of after ≡ map birth_of before ++ map (born_in cell) newborns
   pub seat : (start : SeatValue) → HasInterned start old before → HasInterned start new after
 
--- behind what the lives of the cells before it left is told what this life left: who is in the cell
--- once the dead have gone, what is counted of that one, the dead and the newborns
+-- behind what earlier lives left is told who this life leaves in its cell, its dead and newborns
 pub record IsToldBehind (cell : ℕ) (l : OrganismLife) (slot : Option OrganismState)
     (before after : Left) : Type 0 where
   pub left : slot ≡ left_in l
@@ -89,8 +83,7 @@ pub record IsToldBehind (cell : ℕ) (l : OrganismLife) (slot : Option OrganismS
   pub dead : after.dead ≡ before.dead ++ dead_in (cell, l)
   pub births : AreDelivered cell l.newborns before.seat after.seat before.births after.births
 
--- a job's cells have lived, the dead have left them, what is counted of the others is told, its
--- newborns are delivered, and its seat has interned them
+-- a job's cells have lived, the dead left, the others are counted, newborns delivered and interned
 pub record IsFinished (round : RoundNumbers) (job : Job) (finished : Finished) : Type 0 where
   pub first : finished.first ≡ job.first
   pub cells : finished.cells ≡ map left_in (shard_lives_of round (part_of job))

@@ -30,8 +30,7 @@ genotype_with_one genotypes key genome other =
     then Some (record { genome = genome; count = count_under genotypes key + 1 })
     else genotype_at genotypes other
 
--- what is under a key once one organism fewer has the genome under another: with its last one the
--- genotype goes
+-- what is under a key once the genome under another has one organism fewer; with its last it goes
 abbrev pub genotype_without_one : List (ℕ × GenotypeCount) → ℕ → ℕ → Option GenotypeCount
 genotype_without_one genotypes key other =
     if key == other
@@ -96,8 +95,7 @@ pub record CanRemove (counts : Counts) (key merit : ℕ) (credited : List Bool) 
   pub merits : merit ≤ counts.merit
   pub tasks : AreCounted counts.tasks credited
 
--- an organism with this merit and credited set may be among those that are counted, and the counts
--- have room for its next merit
+-- an organism with this merit and set may be counted, and there is room for its next merit
 pub record CanRenew (counts : Counts) (merit : ℕ) (credited : List Bool) (next_merit : ℕ) : Type 0
   where
     pub counted : merit ≤ counts.merit

@@ -9,8 +9,7 @@ pub record GenotypeCount : Type 0 where
   pub genome : List Letter
   pub count : ℕ
 
--- the genotypes by their keys, in no order that matters, the sum of the merits, and for each task
--- how many have it in their credited set
+-- genotypes by keys, in no order that matters, the sum of merits, how many have each task credited
 pub record Counts : Type 0 where
   pub genotypes : List (ℕ × GenotypeCount)
   pub merit : ℕ

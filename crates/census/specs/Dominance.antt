@@ -14,8 +14,7 @@ use Rattle.census.specs.declared.dominant.Dominant.{Dominant}
 abbrev pub letters_cmp : List Letter → List Letter → Ordering
 letters_cmp genome other = slice_cmp nat_cmp (map index_of genome) (map index_of other)
 
--- the genotype that more organisms have comes first, and of equally frequent ones the one whose
--- letters come first
+-- the more frequent genotype comes first, and of equally frequent ones that with the first letters
 abbrev pub dominance_cmp : GenotypeCount → GenotypeCount → Ordering
 dominance_cmp genotype other =
     ordering_then (nat_cmp other.count genotype.count) (letters_cmp genotype.genome other.genome)

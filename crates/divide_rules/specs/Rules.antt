@@ -3,8 +3,7 @@ use Rattle.std.specs.Prelude.{ℕ, ◌≤◌, Bool}
 use Rattle.genome.specs.Lengths.{shortest_genome, longest_genome}
 use Rattle.divide_rules.specs.declared.limits.DivideRules.{DivideRules}
 
--- the least and the greatest length of a part, the percentages asked for, and whether an allocation
--- is needed
+-- least and greatest length of a part, percentages asked for, whether an allocation is needed
 pub record RuleNumbers : Type 0 where
   pub least : ℕ
   pub greatest : ℕ

@@ -79,15 +79,13 @@ abbrev pub first_broken : DivideAsk → ℕ → RuleNumbers → Option Rule
 first_broken ask genome_length rules =
     find (λ rule. not (rule_holds rule ask genome_length rules)) all_rules
 
--- the verdict on a divide of a parent whose genome has this length: the first rule that is broken is
--- named with its two numbers
+-- the verdict on a divide of a parent of this length: the first broken rule, with its two numbers
 unfoldable pub verdict_of : DivideAsk → ℕ → RuleNumbers → Verdict
 verdict_of ask genome_length rules =
     option_map_or (λ rule. Broken rule (found_of rule ask) (bound_of rule ask genome_length rules))
     (first_broken ask genome_length rules) Viable
 
--- all six rules hold: as facts with names, where `rule_holds` tests one rule, since a verdict names
--- the first that is broken; `divide_rules::judge · viable` says that the two agree
+-- all six rules hold, as facts with names; `divide_rules::judge · viable` says that verdicts agree
 pub record IsViable (ask : DivideAsk) (genome_length : ℕ) (rules : RuleNumbers) : Type 0 where
   pub allocated : IsTrue (ask.allocated || not rules.need_alloc)
   pub parent_not_short : least_part genome_length rules ≤ ask.read

@@ -26,8 +26,7 @@ interned_genome Refused = None
 abbrev pub genomes_of : List Entry → List (List Letter)
 genomes_of history = filter_map (λ one. interned_genome one.call) history
 
--- the different genomes that a history interned, in order of their first place; a genome's number
--- is its place among them
+-- the different genomes of a history, in order of first places, which are the genomes' numbers
 abbrev pub genotypes_of : List Entry → List (List Letter)
 genotypes_of history = different_of (genomes_of history)
 

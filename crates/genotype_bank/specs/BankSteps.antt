@@ -16,15 +16,14 @@ use Rattle.genotype_bank.specs.BankTable.{Seated}
 
 -- a seat with its ticket and, from now on, a number of its own
 abbrev pub with_ticket : View → ℕ → ℕ → View
-with_ticket v j t =
-    record {
-      share = v.share;
-      carried = j ∷ v.carried;
-      seen = v.seen;
-      ticket = Some t;
-      holding = false;
-      past = v.past;
-    }
+with_ticket v j t = record {
+  share = v.share;
+  carried = j ∷ v.carried;
+  seen = v.seen;
+  ticket = Some t;
+  holding = false;
+  past = v.past;
+}
 
 -- a draw gives the ticket, and no call that was seen has the seat's number already
 abbrev pub HasDrawn : Step (Option Catalog) → Seated → ℕ → Seated → Type 0
@@ -34,18 +33,16 @@ HasDrawn st m r m' =
 
 -- a seat in its turn, which has seen the whole history
 abbrev pub at_turn : View → List Entry → View
-at_turn v history =
-    record {
-      share = v.share;
-      carried = v.carried;
-      seen = history;
-      ticket = v.ticket;
-      holding = true;
-      past = v.past;
-    }
+at_turn v history = record {
+  share = v.share;
+  carried = v.carried;
+  seen = history;
+  ticket = v.ticket;
+  holding = true;
+  past = v.past;
+}
 
--- a look at the turn: where it is the seat's own, the seat has seen the whole history, and the
--- catalog is out with it
+-- a look at the turn: in its own, a seat has seen the whole history, and the catalog is out with it
 abbrev pub HasLooked : Step (Option Catalog) → Seated → ℕ → Seated → Type 0
 HasLooked st m r m' =
     (t : ℕ) → m.0.ticket ≡ Some t →
@@ -75,15 +72,14 @@ memo_of v = record { carried = v.carried; seen = v.seen }
 
 -- two seats as one
 abbrev pub joined_view : View → View → View
-joined_view v w =
-    record {
-      share = v.share + w.share;
-      carried = v.carried ++ w.carried;
-      seen = longer v.seen w.seen;
-      ticket = None;
-      holding = false;
-      past = memo_of v ∷ memo_of w ∷ [];
-    }
+joined_view v w = record {
+  share = v.share + w.share;
+  carried = v.carried ++ w.carried;
+  seen = longer v.seen w.seen;
+  ticket = None;
+  holding = false;
+  past = memo_of v ∷ memo_of w ∷ [];
+}
 
 -- the number under which a seat drew last
 abbrev pub last_drawn_number : View → ℕ

@@ -1,5 +1,4 @@
--- The genomes of a bank, as they go from turn to turn (docs/ARCHITECTURE.md, "The bank of
--- genotypes").
+-- A bank's genomes, as they go from turn to turn (docs/ARCHITECTURE.md, "The bank of genotypes").
 use Rattle.std.specs.Prelude.{ℕ, List, [], ◌∷◌, slice_get, Option, Some, None}
 use Rattle.instruction_set.specs.declared.letter.Letter.{Letter}
 use Rattle.genotype_bank.specs.declared.catalog.Catalog.{Catalog}

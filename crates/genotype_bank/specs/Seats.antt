@@ -11,8 +11,7 @@ use Rattle.genotype_bank.specs.BankHistory.{entry, calls_under, genotypes_of}
 abbrev pub all_shares : ℕ
 all_shares = 4294967296
 
--- the bank of a seat, its share, the numbers that it has drawn under or taken over in a join, and
--- the history that it has seen
+-- a seat's bank, share, numbers drawn under or taken over in a join, and the history it has seen
 pub record SeatValue : Type 0 where
   pub bank : TableId
   pub share : ℕ
@@ -23,8 +22,7 @@ pub record SeatValue : Type 0 where
 abbrev pub own_calls_of : SeatValue → List Entry
 own_calls_of seat = calls_under seat.numbers seat.seen
 
--- what a seat has seen begins with what it had seen, and ends with one more call of its own; others
--- may have called in between, but for a whole seat there are no others
+-- a seat has seen one more call, its own, after what others called meanwhile, if it isn't whole
 pub record MakesCall (before after : SeatValue) (call : Call) : Type 0 where
   pub number : ℕ
   pub others : List Entry
@@ -32,8 +30,7 @@ pub record MakesCall (before after : SeatValue) (call : Call) : Type 0 where
   pub own : own_calls_of after ≡ own_calls_of before ++ entry number call ∷ []
   pub alone : before.share ≡ all_shares → after.seen ≡ before.seen ++ entry number call ∷ []
 
--- two histories that begin one history number genomes alike: two numbers are equal exactly where
--- the genomes are
+-- two histories that begin one history number genomes alike: equal numbers for equal genomes alone
 abbrev pub NumbersAgree : Type 0
 NumbersAgree =
     (early late history : List Entry) (number other : ℕ) (genome twin : List Letter)

@@ -11,15 +11,14 @@ use Rattle.genotype_bank.specs.Seats.{all_shares}
 
 -- a seat between two calls
 abbrev pub idle_view : ℕ → List ℕ → List Entry → View
-idle_view share carried seen =
-    record {
-      share = share;
-      carried = carried;
-      seen = seen;
-      ticket = None;
-      holding = false;
-      past = [];
-    }
+idle_view share carried seen = record {
+  share = share;
+  carried = carried;
+  seen = seen;
+  ticket = None;
+  holding = false;
+  past = [];
+}
 
 -- the whole seat that a bank begins with
 abbrev pub first_view : View

@@ -4,8 +4,7 @@ use Rattle.landscape.specs.declared.totals.Totals.{Totals}
 use Rattle.landscape.specs.declared.first_divide.Trial.{Trial}
 use Rattle.landscape.specs.Landscape.{Landscape}
 
--- a trial is better than the base's where it gives more merit a step; where the base has none,
--- every trial is better
+-- a trial is better where it gives more merit a step than the base's, or where the base has none
 abbrev pub better_than : Option Trial → Trial → Bool
 better_than None trial = true
 better_than (Some base) trial = nat_lt (base.merit * trial.step) (trial.merit * base.step)
@@ -20,8 +19,7 @@ abbrev pub has_better : Option Trial → Option Trial → Bool
 has_better base None = false
 has_better base (Some trial) = better_than base trial
 
--- how many entries there are, how many have a trial, how many trials have the tested genome itself
--- as child, and how many are better
+-- how many entries there are, have a trial, have the tested genome as child, and are better
 unfoldable pub totals_of : Landscape → Totals
 totals_of s = record {
   entries = length s.entries;

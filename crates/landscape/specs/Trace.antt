@@ -6,8 +6,7 @@ use Rattle.organism.specs.OrganismState.{OrganismState, new_organism}
 use Rattle.organism.specs.TraceRules.{trace_greatest}
 use Rattle.organism.specs.TracedStep.{TracedStep, trace_step_of}
 
--- the organism that a trace with these inputs begins with: it has done no task, its merit is its
--- length, and its memory may grow to the greatest length in the trace
+-- the organism that a trace begins with: no task done, merit its length, memory up to the greatest
 abbrev pub organism_alone : List Letter → List ℕ → OrganismState
 organism_alone letters inputs =
     new_organism letters inputs (length letters) no_tasks (trace_greatest (length letters))

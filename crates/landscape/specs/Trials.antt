@@ -13,8 +13,7 @@ trial_at genome number (divide executed copied merit child) =
     Some (record { step = number; merit = merit; same = same_letters child genome })
 trial_at genome number _ = None
 
--- the trial that the step after so many others shows, of an organism of this genome alone; steps
--- are numbered from 1
+-- the trial that the step after so many others, counted from 1, shows of an organism alone
 abbrev pub trial_after : List Letter → ℕ → Option Trial
 trial_after genome n =
     trial_at genome (n + 1) (step_after (traced_organism genome) n).remark

@@ -1,5 +1,4 @@
--- How far a run has come that publishes its pictures (docs/ARCHITECTURE.md, "Pictures and
--- observers").
+-- How far a run that publishes has come (docs/ARCHITECTURE.md, "Pictures and observers").
 use Rattle.std.specs.Prelude.{◌≡◌, ◌+◌, ℕ, List, Option, None, Some, IfOk, IfSome, Result}
 use Rattle.avida_port.specs.Ports.{SinkState}
 use Rattle.world_config.specs.Shown.{values_of}
@@ -11,8 +10,7 @@ use Rattle.written_texts.specs.WrittenText.{WritesAll}
 use Rattle.logged_run.specs.RunText.{IsWorldAt, run_text}
 use Rattle.logged_run.specs.Watching.{ArePictures}
 
--- the pictures of a configuration's updates up to this one were published; this is the last one, and
--- a note of it tells of them
+-- the pictures of all updates up to this one were published, and a note of the last tells of them
 pub record IsPublished (config : ConfigValues) (update : ℕ) (published : List WorldPicture)
     (picture : WorldPicture) (told : List WorldPicture) : Type 0 where
   pub pictures : ArePictures config (update + 1) published
@@ -20,8 +18,7 @@ pub record IsPublished (config : ConfigValues) (update : ℕ) (published : List 
   pub picture_update : picture.update ≡ update
   pub note : told ≡ published
 
--- a configuration's run has come to this update: the pictures of all updates so far were published,
--- and the run has the last one and its note
+-- a run has come to this update: all pictures were published, and it has the last and its note
 pub record HasCome (config : ConfigValues) (update : ℕ) (published : List WorldPicture)
     (progress : Progress) : Type 0 where
   pub world : IsWorldAt config update progress.world

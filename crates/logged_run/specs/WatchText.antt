@@ -11,8 +11,7 @@ abbrev pub pictures_text : ConfigValues → List ℕ → List ℕ
 pictures_text config updates =
     flat_map (λ update. picture_text (picture_of config update)) updates
 
--- the updates whose pictures a watcher of so many looks may write: they rise, and the last is the
--- run's
+-- the updates that a watcher of so many looks may write: they rise, and the last is the run's
 pub record AreWatched (looks last : ℕ) (updates : List ℕ) : Type 0 where
   pub rising : IsStrictlyIncreasing updates
   pub ends : (earlier : List ℕ) × (updates ≡ earlier ++ last ∷ [])

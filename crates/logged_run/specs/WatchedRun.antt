@@ -28,8 +28,7 @@ pub record EndsWatched (progress : Progress) (newest : Option ℕ) (before after
   pub line : WritesAll before after (pictures_text progress.world.config
       (news newest progress.world.update progress.world.update)) result
 
--- how a run ends whose runner and watcher ended so: how the runner stopped comes before how the
--- watcher stopped
+-- how a run ends whose runner and watcher ended so: the runner's stop comes before the watcher's
 abbrev pub EndsRun : Result Progress WriteStop → Result (Option ℕ) WriteStop
     → SinkState → SinkState → Result WorldValue WriteStop → Type 0
 EndsRun (Err stop) watched before after result = (result ≡ Err stop) × (after ≡ before)

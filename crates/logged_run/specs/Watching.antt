@@ -1,5 +1,4 @@
--- What the watcher of a run has seen and written, look by look (docs/ARCHITECTURE.md, "Pictures and
--- observers").
+-- What a watcher has seen and written so far (docs/ARCHITECTURE.md, "Pictures and observers").
 use Rattle.std.specs.Prelude.{◌≡◌, ◌≤◌, ◌+◌, ◌&&◌, Bool, ℕ, List, [], ◌∷◌, Option, None, Some, IfSome, IfOk, OnOk, Result, Ok, Err, length, nat_le, nat_lt, if◌then◌else◌}
 use Rattle.std.specs.List.Sorted.{IsStrictlyIncreasing}
 use Rattle.avida_port.specs.Ports.{SinkState}

@@ -1,5 +1,4 @@
--- Sets of tasks as numbers: task number p of the table, from 1, has the value 2^(p - 1)
--- (docs/FORMATS.md, "Saved worlds").
+-- Sets of tasks as numbers: task p, from 1, is 2^(p - 1) (docs/FORMATS.md, "Saved worlds").
 use Rattle.std.specs.Prelude.{ℕ, ◌+◌, ◌*◌, Bool, List, [], ◌∷◌, map, if◌then◌else◌}
 use Rattle.std.specs.List.{range_with_len}
 use Rattle.logic_tasks.specs.LogicTasks.{has_bit}

@@ -1,5 +1,4 @@
--- Sets of tasks: a list that tells of each task of the table whether the set has it
--- (docs/MACHINE.md, "The tasks").
+-- Sets of tasks: a list tells of each task whether the set has it (docs/MACHINE.md, "The tasks").
 use Rattle.std.specs.Prelude.{Bool, true, false, List, replicate, slice_index_or, slice_set}
 use Rattle.logic_tasks.specs.declared.task.Task.{Task}
 use Rattle.logic_tasks.specs.LogicTasks.{task_place}

@@ -36,8 +36,7 @@ child_of parent birth = text_after 1 birth.changes (unwrap_or birth.written pare
 abbrev pub written_of : List Letter → List Letter → Option (List Letter)
 written_of clean parent = if same_letters clean parent then None else Some clean
 
--- the changes of a birth: points where the text that has its site points differs from the clean
--- text, then insertions, then deletions
+-- a birth's changes: points where the text with site points isn't clean, insertions, deletions
 unfoldable pub drawn_by_divide :
     (ℕ → ℕ) → ℕ → RateNumbers → LengthRange → List Letter → List Letter → Drawn
 drawn_by_divide words k rates limits clean written =

@@ -1,5 +1,4 @@
--- What a divide hands to the errors of a child, and what these keep (docs/WORLD.md, "Records of
--- birth").
+-- What a divide hands to a child's errors, and what these keep (docs/WORLD.md, "Records of birth").
 use Rattle.std.specs.Prelude.{◌≡◌, ◌+◌, ◌*◌, ◌≤◌, List, length}
 use Rattle.instruction_set.specs.declared.letter.Letter.{Letter}
 use Rattle.random_streams.specs.RandomStream.{Stream, word_of}

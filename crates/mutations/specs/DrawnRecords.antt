@@ -7,8 +7,7 @@ use Rattle.mutations.specs.BirthRecord.{BirthRecord, origin_of}
 use Rattle.mutations.specs.ChildTexts.{AreTextsOfChild}
 use Rattle.mutations.specs.Rates.{RateNumbers, LengthRange}
 
--- this holds of the limits of a birth, the genome of its parent and its record, whatever the words,
--- the rates and the texts, where the limits are lengths of genomes
+-- so it is with limits that are lengths of genomes, a parent and its record, whatever was drawn
 abbrev pub OfDrawnRecords : (LengthRange → List Letter → BirthRecord → Type 0) → Type 0
 OfDrawnRecords P = (words : ℕ → ℕ) (k : ℕ) (rates : RateNumbers) (limits : LengthRange)
     (clean written parent : List Letter)

@@ -1,5 +1,4 @@
--- What a life may add within some steps, so that no number leaves its range (docs/WORLD.md, "The
--- life of one update").
+-- What a life may add within steps, so that numbers fit (docs/WORLD.md, "The life of one update").
 use Rattle.std.specs.Prelude.{◌≡◌, ℕ, ◌+◌, ◌≤◌, ◌^◌, List, length}
 use Rattle.random_streams.specs.RandomStream.{Stream}
 use Rattle.organism.specs.declared.newborn.Newborn.{Newborn}
@@ -17,8 +16,7 @@ pub record LifeNow : Type 0 where
 abbrev pub life_now : OrganismState → List Newborn → Stream → LifeNow
 life_now o births draws = record { organism = o; births = births; draws = draws }
 
--- at most so many steps more of age, so many newborns more and so many words more; the genome
--- stays, and merits and lengths stay within their bounds
+-- at most so much more age, births and words; the genome stays, merits and lengths stay in bounds
 pub record GoesOn (settings : SettingNumbers) (steps children words : ℕ)
     (old new : LifeNow) : Type 0 where
   pub age : new.organism.age ≤ old.organism.age + steps

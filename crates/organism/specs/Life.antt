@@ -1,5 +1,4 @@
--- One step of a life, with a copy error or without, under any rules (docs/WORLD.md, "The life of
--- one update").
+-- One step of a life, with a copy error or without (docs/WORLD.md, "The life of one update").
 use Rattle.std.specs.Prelude.{ℕ, ℤ, ◌+◌, ◌*◌, ◌-◌, ◌≤◌, ◌%◌, Bool, List, Option, Some, None, length, slice_index_or, if◌then◌else◌}
 use Rattle.std.specs.Int.{cast_signed, w32}
 use Rattle.instruction_set.specs.declared.letter.Letter.{Letter}
@@ -39,8 +38,7 @@ abbrev pub new_to : List Bool → Option Task → Option Task
 new_to tasks None = None
 new_to tasks (Some task) = if has_task tasks task then None else Some task
 
--- the task that an output does with the inputs read before, where this gestation has not done it
--- yet
+-- the task that an output does with the inputs read before, where it is new to this gestation
 abbrev pub newly_done : OrganismState → ℤ → Option Task
 newly_done o output = new_to o.gestation (task_done output o.inputs o.read)
 
@@ -95,8 +93,7 @@ renewed o ask = record o {
       o.machine.limit;
 }
 
--- a divide whose two parts are long enough for genomes and lie in memory, the parent's at most
--- twice its genome
+-- a divide's parts are long enough for genomes, in memory, the parent's at most twice its genome
 pub record IsDivide (o : OrganismState) (ask : DivideAsk) : Type 0 where
   pub least_parent : 8 ≤ ask.read
   pub least_child : 8 ≤ ask.end - ask.read

@@ -1,5 +1,4 @@
--- What holds of an organism through its life, and of its newborns (docs/WORLD.md, "The life of one
--- update").
+-- What holds of an organism and its newborns in a life (docs/WORLD.md, "The life of one update").
 use Rattle.std.specs.Prelude.{◌≡◌, ℕ, ◌+◌, ◌≤◌, ◌^◌, List, [], length, Ok}
 use Rattle.std.specs.List.{All}
 use Rattle.instruction_set.specs.declared.letter.Letter.{Letter}
@@ -14,8 +13,7 @@ use Rattle.organism.specs.OrganismState.{OrganismState, IsOrganism}
 use Rattle.organism.specs.Newborns.{NewbornValue}
 use Rattle.organism.specs.UpdateLife.{LifeState}
 
--- an organism with a genome, a machine whose numbers have 32 bits, and a merit from 1 to the
--- greatest
+-- an organism with a genome, a machine with numbers of 32 bits, and a merit from 1 to the greatest
 pub record IsSoundOrganism (o : OrganismState) : Type 0 where
   pub organism : IsOrganism o
   pub machine : IsMachine o.machine
@@ -24,8 +22,7 @@ pub record IsSoundOrganism (o : OrganismState) : Type 0 where
   pub some_merit : 1 ≤ o.merit
   pub merit : o.merit ≤ 2 ^ 38
 
--- a newborn that its record makes of this genome, with a length that the rules allow, a merit, and
--- a record that a log can write
+-- a newborn made of this genome by a record that a log can write, of allowed length, with a merit
 pub record IsBornOf (parent : List Letter) (rules : RuleNumbers)
     (newborn : NewbornValue) : Type 0 where
   pub child : child_of parent newborn.origin ≡ Ok newborn.genome

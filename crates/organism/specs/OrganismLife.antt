@@ -1,6 +1,4 @@
--- What the life of one update comes to, for whoever may stand in a cell
--- (docs/WORLD.md, "The life of one update"): the organism after its last step, whether it died of
--- age, and its newborns. For example, of nobody's life nothing comes.
+-- What a life comes to for whoever may stand in a cell (docs/WORLD.md, "The life of one update").
 use Rattle.std.specs.Prelude.{ℕ, Bool, false, List, [], Option, None, Some}
 use Rattle.organism.specs.declared.ran.Ran.{Ran}
 use Rattle.organism.specs.Lived.{beginning}

@@ -4,8 +4,7 @@ use Rattle.divide_rules.specs.Rules.{RuleNumbers, rule_numbers}
 use Rattle.mutations.specs.Rates.{RateNumbers, numbers_of}
 use Rattle.organism.specs.declared.settings.Settings.{Settings}
 
--- the rates of errors, the rules of a divide, whether age kills and at which multiple of the
--- genome's length, and the limit of memory
+-- rates of errors, rules of a divide, whether age kills, at which multiple of length, memory limit
 pub record SettingNumbers : Type 0 where
   pub rates : RateNumbers
   pub rules : RuleNumbers

@@ -42,16 +42,14 @@ remark_value (remark.Divide executed copied merit child) =
 
 -- a traced step, with its remark
 abbrev pub traced_value : Traced → TracedStep
-traced_value t =
-    record {
-      place = t.place;
-      letter = t.letter;
-      registers = t.registers;
-      remark = remark_value t.remark;
-    }
+traced_value t = record {
+  place = t.place;
+  letter = t.letter;
+  registers = t.registers;
+  remark = remark_value t.remark;
+}
 
--- the organism and the remark after an outcome: a viable divide renews the parent, and the child is
--- what was written
+-- organism and remark after an outcome: a viable divide renews the parent, its child was written
 abbrev pub remark_on : OrganismState → Outcome → OrganismState × TracedRemark
 remark_on o outcome.Nothing = (o, nothing)
 remark_on o (outcome.Task done) = (o, task done)

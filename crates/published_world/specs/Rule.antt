@@ -1,5 +1,4 @@
--- The rule that the published value and the views keep, and what each step tells
--- (docs/ARCHITECTURE.md, "Pictures and observers").
+-- The rule of the published value, and its steps (docs/ARCHITECTURE.md, "Pictures and observers").
 use Rattle.std.specs.Prelude.{◌≡◌, ◌⊎◌, ◌<◌, ℕ, List, [], ◌∷◌, ◌++◌, length, take, true, false, Option, Some}
 use mathlib.Core.List.{IsPrefix}
 use mathlib.Core.Option.{some}
@@ -34,8 +33,7 @@ module _ {P : Type 0} where
     pub length_is : length log ≡ shown.count
     pub last_is : 0 < shown.count → last_of log ≡ Some shown.picture.value
 
-  -- who has seen a prefix of the history. The one that writes sits at this seat, and has seen it
-  -- all
+  -- who has seen a prefix of the history; the one that writes sits at this seat and has seen it all
   pub record Fits (writer : ℕ) (log : List P) (seat : ℕ) (v : View P) : Type 0 where
     pub prefix : IsPrefix v.seen log
     pub whole : v.writes ≡ true → (seat ≡ writer) × (v.seen ≡ log) × (0 < length log)
@@ -78,8 +76,7 @@ module _ {P O : Type 0} (number : P → ℕ) (of : P → O) where
     pub last_is : last_of seen ≡ Some last.picture.value
     pub publication : IsPublication number of seen
 
-  -- the writer has seen a history as long as is shown. Unless nothing was published yet, it is the
-  -- one that writes
+  -- the writer has seen as much as is shown; once anything was published, it is the one that writes
   pub record MayWrite (shown : Shown P) (v : View P) : Type 0 where
     pub right : (v.writes ≡ true) ⊎ (shown.count ≡ 0)
     pub length_is : length v.seen ≡ shown.count

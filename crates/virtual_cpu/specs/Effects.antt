@@ -1,5 +1,4 @@
--- What each letter does, with the advance of IP and the answer: one row a letter (docs/MACHINE.md,
--- "The instruction table").
+-- What each letter does and answers: one row a letter (docs/MACHINE.md, "The instruction table").
 use Rattle.std.specs.Prelude.{ℤ, Bool, true, false, Option}
 use Rattle.instruction_set.specs.declared.letter.Letter.{Letter}
 use Rattle.instruction_set.specs.declared.letter.Letter.TheVariants.{NopA, NopB, NopC, IfNEqu, IfLess, IfLabel, MovHead, JmpHead, GetHead, SetFlow, ShiftR, ShiftL, Inc, Dec, Push, Pop, SwapStk, Swap, Add, Sub, Nand, HCopy, HAlloc, HDivide, Io, HSearch}

@@ -1,5 +1,4 @@
--- What each instruction on heads does before IP advances (docs/MACHINE.md, "The instruction
--- table").
+-- What instructions on heads do before IP advances (docs/MACHINE.md, "The instruction table").
 use Rattle.std.specs.Prelude.{pos, ◌+ℤ◌}
 use Rattle.virtual_cpu.specs.declared.registers.Register.TheVariants.{Cx}
 use Rattle.virtual_cpu.specs.declared.heads.Head.{Head}

@@ -1,5 +1,4 @@
--- Which operand each letter takes (docs/MACHINE.md, "The instruction table", "Modifiers",
--- "Templates").
+-- Which operand letters take (docs/MACHINE.md, "The instruction table", "Modifiers", "Templates").
 use Rattle.std.specs.Prelude.{◌≡◌, ℤ, ◌+◌, ◌%◌, List, Option, length}
 use Rattle.instruction_set.specs.declared.letter.Letter.{Letter}
 use Rattle.instruction_set.specs.declared.letter.Class.{Class}

@@ -1,5 +1,4 @@
--- What each instruction on registers does before IP advances (docs/MACHINE.md, "The instruction
--- table").
+-- What instructions on registers do before IP advances (docs/MACHINE.md, "The instruction table").
 use Rattle.std.specs.Prelude.{bit_and, ℤ, pos, ◌-◌, Bool, true, false, List, [], slice_index_or, slice_set, int_lt, if◌then◌else◌}
 use Rattle.std.specs.Int.{w32, int_wrapping_add, int_wrapping_sub, int_shl, int_shr, cast_signed, cast_unsigned, bit_not}
 use Rattle.std.specs.Ordering.{int_eq}

@@ -1,5 +1,4 @@
--- What the two instructions on templates do before IP advances (docs/MACHINE.md, "Templates",
--- "h-search").
+-- What instructions on templates do before IP advances (docs/MACHINE.md, "Templates", "h-search").
 use Rattle.std.specs.Prelude.{ℕ, ℤ, pos, ◌+◌, ◌-◌, ◌%◌, true, false, Option, Some, None, List, [], ◌∷◌, length, if◌then◌else◌, ◌-ℤ◌}
 use Rattle.instruction_set.specs.declared.letter.Letter.{Letter}
 use Rattle.instruction_set.specs.Letter.{same_letters}

@@ -26,8 +26,7 @@ abbrev pub unless_refused :
 unless_refused (Some stop) values = Err stop
 unless_refused None values = values
 
--- the configuration of a table: its keys are tried first, and its events last; one with an unknown
--- key, or with a wrong value, is refused for that whatever its events are
+-- a table's configuration: an unknown key or a wrong value refuses it before its events are tried
 abbrev pub config_in : Members → Result ConfigValues ConfigStop
 config_in ms =
     unless_refused (refusal_in ms)

@@ -93,14 +93,12 @@ abbrev pub followed :
 followed nth None others = Err nth
 followed nth (Some event) others = more_events event (others event.update)
 
--- the events that members are, the first of which has this place and happens in this update or
--- later; or the place of the first member that is no event
+-- the events of members from a place and an update on, or the place of the first that is none
 abbrev pub events_from : Frame → Items → ℕ → ℕ → Result (List EventValue) ℕ
 events_from frame no_items nth least = Ok []
 events_from frame (item d ds) nth least =
     followed nth (event_of frame least d) (events_from frame ds (nth + 1))
 
--- the events that an array is: their updates begin at 1 or later and never fall, and places count
--- from 1
+-- the events that an array is: updates begin at 1 or later and never fall; places count from 1
 abbrev pub events_of : Frame → Items → Result (List EventValue) ℕ
 events_of frame items = events_from frame items 1 1

@@ -1,7 +1,6 @@
--- Tables that are printed (docs/FORMATS.md, "The configuration"): a key with its value at its
--- place, and the tables of events. For example, the event of update 5 that does `clear 0 9` has a
--- table of four keys, in the order of bytes: first, kind, last and update. No clause of a public
--- function cites this file.
+-- Tables that are printed (docs/FORMATS.md, "The configuration"): a key with its value, and events.
+-- For example, the event of update 5 that does `clear 0 9` has four keys, in the order of bytes:
+-- first, kind, last and update. No clause of a public function cites this file.
 use Rattle.std.specs.Prelude.{ℕ, pos, List, [], ◌∷◌, codes}
 use Rattle.std.specs.Ordering.{nat_cmp, match_ordering}
 use Rattle.std.specs.Cmp.Lexicographic.{slice_cmp}
@@ -11,8 +10,7 @@ use Rattle.genome.specs.GenomeText.{letters_text_of}
 use Rattle.mutations.specs.RateNames.{name_of_rate}
 use Rattle.world_config.specs.Events.{EventValue, WhatValue, inject, clear, rate}
 
--- the members with this value at the key, at its place in the order of bytes; a value that was
--- there before goes
+-- the members with this value at the key, in the order of bytes; a value that was there goes
 abbrev pub insert_member : List ℕ → Data → Members → Members
 insert_member k d no_members = member k d no_members
 insert_member k d (member l e ms) =

@@ -12,8 +12,7 @@ use Rattle.world_config.specs.declared.event.What.{What}
 use Rattle.world_config.specs.declared.event.What.TheVariants as code
 use Rattle.world_config.specs.KeyTable.{Frame}
 
--- what an event does: it puts an organism with these letters into a cell, kills all in the cells
--- from the first to the last, or sets a rate, in parts per million, from the next update on
+-- puts these letters into a cell, kills all from cell to cell, or sets a rate from the next update
 pub data WhatValue : Type 0 where
   inject : ℕ → List Letter → WhatValue
   clear : ℕ → ℕ → WhatValue
@@ -34,8 +33,7 @@ what_value (code.Rate name ppm) = rate name ppm
 abbrev pub event_value : Event → EventValue
 event_value event = record { update = event.update; what = what_value event.what }
 
--- its cells are in the world, the length of its genome is within the two bounds, and its rate is at
--- most a million in a million
+-- cells are in the world, a genome's length within bounds, a rate at most a million in a million
 abbrev pub what_fits : Frame → WhatValue → Bool
 what_fits frame (inject cell ls) =
     nat_le cell frame.last_cell
@@ -48,8 +46,7 @@ abbrev pub event_fits : Frame → EventValue → Bool
 event_fits frame event =
     (nat_le 1 event.update && nat_le event.update frame.updates) && what_fits frame event.what
 
--- a configuration with these numbers can have these events: at most 1000, each of which fits, and
--- whose updates never fall
+-- these events can be configured: at most 1000, each of which fits, and whose updates never fall
 pub record AreEvents (frame : Frame) (events : List EventValue) : Type 0 where
   pub number : length events ≤ 1000
   pub fit : AllPass (event_fits frame) events

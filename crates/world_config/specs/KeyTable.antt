@@ -1,7 +1,6 @@
--- The table of keys (docs/FORMATS.md, "The configuration"): a row for each key, with its name, its
--- default and what its value may be, and the order in which the keys are tried. For example,
--- `width` is a number from 1 to 256, and 60 where a document has none. `Data` is a value of TOML:
--- `integer (pos 60)` is 60, `integer (negsuc 0)` is -1, and `string` has a text's bytes.
+-- The table of keys (docs/FORMATS.md, "The configuration"): each key's name, default and range, in
+-- the order of trying: `width` is from 1 to 256, and 60 where a document has none. `Data` is TOML's
+-- value: `integer (pos 60)` is 60, `integer (negsuc 0)` is -1, and `string` has a text's bytes.
 use Rattle.std.specs.Prelude.{ℕ, max, pos, true, List, [], ◌∷◌, ◌++◌, codes, replicate}
 use Rattle.toml.specs.Data.{Data, string, integer, boolean, array, no_items}
 use Rattle.world_config.specs.declared.key.Key.{Key}
@@ -39,8 +38,7 @@ pub record Frame : Type 0 where
 abbrev pub default_ancestor : List ℕ
 default_ancestor = codes "wzcag" ++ replicate 86 99 ++ codes "zvfcaxgab"
 
--- the row of each key; the frame has the numbers by which other keys bound it, and the greatest
--- seed is the greatest integer of TOML, 2 ^ 63 - 1
+-- each key's row, bounded by the frame's numbers; a seed's greatest is TOML's integer 2 ^ 63 - 1
 abbrev pub key_row : Frame → Key → KeyRow
 key_row frame code.Width = number_row (codes "width") 60 1 256
 key_row frame code.Height = number_row (codes "height") 60 1 256

@@ -1,6 +1,5 @@
--- The values of a document's table at the keys (docs/FORMATS.md, "The configuration"). A missing
--- key has its default: of a document that is only `width = 20`, the number at Width is 20, and that
--- at Height is 60. What is of another kind counts as 0, false or nothing, since Refusal rejects it.
+-- The values of a document's table at the keys, or their defaults (docs/FORMATS.md, "The
+-- configuration"). What is of another kind counts as 0, false or nothing, since Refusal rejects it.
 -- `Members` are the keys of a table with their values, and `Items` the members of an array.
 use Rattle.std.specs.Prelude.{ℕ, pos, ◌+◌, ◌-◌, ◌*◌, Bool, false, List, [], unwrap_or, Result, Ok, Err}
 use Rattle.toml.specs.Data.{Data, string, integer, boolean, array}
@@ -66,8 +65,7 @@ genome_at key ms = letters_of_value (value_at (key_row no_frame key) ms)
 unfoldable pub items_at : Key → Members → Items
 items_at key ms = items_of_value (value_at (key_row no_frame key) ms)
 
--- the numbers of a table that bound its other values, of which the cells are numbered from 0; their
--- own names and defaults are the same in every frame
+-- a table's numbers that bound others, with cells from 0; no frame changes their names and defaults
 abbrev pub frame_in : Members → Frame
 frame_in ms = record {
   last_cell = number_at no_frame code.Width ms * number_at no_frame code.Height ms - 1;

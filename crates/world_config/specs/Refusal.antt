@@ -47,8 +47,7 @@ abbrev pub unless_genome : Key → ℕ → ℕ → Result (List Letter) GenomeSt
 unless_genome key least greatest (Ok ls) = unless_within key least greatest (pos (length ls))
 unless_genome key least greatest (Err stop) = Some (BadAncestor stop)
 
--- the refusal of a key's value: first for its kind, then for a text that spells no genome, then for
--- its bounds
+-- the refusal of a key's value: for its kind, then for a text that is no genome, then its bounds
 abbrev pub refusal_of : Kind → Key → Data → Option ConfigStop
 refusal_of (number least greatest) key (integer z) = unless_within key least greatest z
 refusal_of flag key (boolean b) = None
