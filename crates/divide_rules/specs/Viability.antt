@@ -1,5 +1,5 @@
 -- The rules of a divide and their verdict (docs/MACHINE.md, "The rules of a divide").
-use Rattle.std.specs.Prelude.{IsTrue, ℕ, ◌+◌, ◌-◌, ◌*◌, ◌/◌, ◌<◌, ◌≤◌, Bool, ◌||◌, ◌&&◌, not, nat_lt, nat_le, min, max, List, [], ◌∷◌, Option, find, if◌then◌else◌}
+use Rattle.std.specs.Prelude.{IsTrue, ℕ, ◌+◌, ◌-◌, ◌*◌, ◌/◌, ◌<◌, ◌≤◌, Bool, ◌||◌, ◌&&◌, not, nat_lt, nat_le, min, max, [], ◌∷◌, Option, find, if◌then◌else◌}
 use Rattle.std.specs.Option.{option_map_or}
 use Rattle.divide_rules.specs.declared.ask.DivideAsk.{DivideAsk}
 use Rattle.divide_rules.specs.Rules.{RuleNumbers}
@@ -7,10 +7,6 @@ use Rattle.divide_rules.specs.declared.rule.Rule.{Rule}
 use Rattle.divide_rules.specs.declared.rule.Rule.TheVariants.{V1, V2, V3, V4, V5, V6}
 use Rattle.divide_rules.specs.declared.verdict.Verdict.{Verdict}
 use Rattle.divide_rules.specs.declared.verdict.Verdict.TheVariants.{Viable, Broken}
-
--- the rules, in the order in which they are tried
-abbrev pub all_rules : List Rule
-all_rules = V1 ∷ V2 ∷ V3 ∷ V4 ∷ V5 ∷ V6 ∷ []
 
 -- half the parent's genome, rounded up, but no less than the world allows
 abbrev pub least_part : ℕ → RuleNumbers → ℕ
@@ -57,27 +53,22 @@ found_of V6 ask = ask.copied
 -- the end of the allowed lengths that a length has passed
 abbrev pub bound_passed : ℕ → ℕ → RuleNumbers → ℕ
 bound_passed part genome_length rules =
-    if nat_lt part (least_part genome_length rules)
-    then least_part genome_length rules
+    if nat_lt part (least_part genome_length rules) then least_part genome_length rules
     else greatest_part genome_length rules
 
--- a hundredth, rounded up
-abbrev pub hundredth : ℕ → ℕ
-hundredth share = (share + 99) / 100
-
--- the bound that a broken rule names
+-- the bound that a broken rule names; a hundredth of a share is rounded up
 abbrev pub bound_of : Rule → DivideAsk → ℕ → RuleNumbers → ℕ
 bound_of V1 ask genome_length rules = 1
 bound_of V2 ask genome_length rules = bound_passed ask.read genome_length rules
 bound_of V3 ask genome_length rules = ask.read + 1
 bound_of V4 ask genome_length rules = bound_passed (child_length ask) genome_length rules
-bound_of V5 ask genome_length rules = hundredth (executed_share ask rules)
-bound_of V6 ask genome_length rules = hundredth (copied_share ask rules)
+bound_of V5 ask genome_length rules = (executed_share ask rules + 99) / 100
+bound_of V6 ask genome_length rules = (copied_share ask rules + 99) / 100
 
--- the first rule that does not hold
+-- the first rule, in this order, that does not hold
 abbrev pub first_broken : DivideAsk → ℕ → RuleNumbers → Option Rule
 first_broken ask genome_length rules =
-    find (λ rule. not (rule_holds rule ask genome_length rules)) all_rules
+    find (λ rule. not (rule_holds rule ask genome_length rules)) (V1 ∷ V2 ∷ V3 ∷ V4 ∷ V5 ∷ V6 ∷ [])
 
 -- the verdict on a divide of a parent of this length: the first broken rule, with its two numbers
 unfoldable pub verdict_of : DivideAsk → ℕ → RuleNumbers → Verdict

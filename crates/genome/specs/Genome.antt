@@ -18,6 +18,5 @@ pub record IsGenome (ls : List Letter) : Type 0 where
 -- these letters as a genome, or what refuses them
 abbrev pub genome_of : List Letter → Result (List Letter) GenomeStop
 genome_of ls =
-    if nat_lt (length ls) shortest_genome
-    then Err (TooShort (length ls))
-    else (if nat_lt longest_genome (length ls) then Err (TooLong (length ls)) else Ok ls)
+    if nat_lt (length ls) shortest_genome then Err (TooShort (length ls))
+    else if nat_lt longest_genome (length ls) then Err (TooLong (length ls)) else Ok ls

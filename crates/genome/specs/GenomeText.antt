@@ -1,16 +1,12 @@
 -- The two spellings of a genome (docs/FORMATS.md, "Genomes by letters" and "Genomes by names").
-use Rattle.std.specs.Prelude.{ℕ, ◌-◌, List, [], ◌∷◌, Option, None, Some, Result, Ok, Err, map, take, length, filter_map, nat_eq, is_none, if◌then◌else◌, ◌==◌, ◌||◌, ◌&&◌, not, Bool, ◌++◌, reverse}
+use Rattle.std.specs.Prelude.{ℕ, ◌-◌, List, [], ◌∷◌, Option, Result, Ok, Err, map, take, length, filter_map, nat_eq, is_none, if◌then◌else◌, ◌==◌, ◌||◌, ◌&&◌, not, Bool, ◌++◌, reverse}
 use Rattle.std.specs.List.{ends_with, position_from, slice_split, before_first, flat_map}
 use Rattle.instruction_set.specs.declared.letter.Letter.{Letter}
 use Rattle.instruction_set.specs.Letter.{byte_of, letter_of_byte, name_of, letter_named}
 use Rattle.genome.specs.declared.stop.GenomeStop.{GenomeStop}
 use Rattle.genome.specs.declared.stop.GenomeStop.TheVariants.{BadLetter, BadName}
 use Rattle.genome.specs.Genome.{genome_of}
-
--- these letters, where there is no faulty place, else the place
-abbrev pub unless_faulty : Option ℕ → List Letter → Result (List Letter) ℕ
-unless_faulty None ls = Ok ls
-unless_faulty (Some place) ls = Err place
+use Rattle.std.specs.Option.{option_map_or}
 
 -- the text before one final line end
 abbrev pub before_line_end : List ℕ → List ℕ
@@ -24,17 +20,17 @@ first_bad_byte text = position_from (λ byte. is_none (letter_of_byte byte)) 0 t
 -- the letters of a text by letters, or the place, from 0, of its first byte that is none
 abbrev pub letters_of : List ℕ → Result (List Letter) ℕ
 letters_of bytes =
-    unless_faulty (first_bad_byte (before_line_end bytes))
-    (filter_map letter_of_byte (before_line_end bytes))
+    option_map_or Err (first_bad_byte (before_line_end bytes))
+    (Ok (filter_map letter_of_byte (before_line_end bytes)))
 
--- the genome of a reading by letters, or what refuses it
-abbrev pub genome_by_letters : Result (List Letter) ℕ → Result (List Letter) GenomeStop
-genome_by_letters (Ok ls) = genome_of ls
-genome_by_letters (Err at) = Err (BadLetter at)
+-- the genome of a reading, or what refuses it; this is what refuses a place
+abbrev pub genome_by : (ℕ → GenomeStop) → Result (List Letter) ℕ → Result (List Letter) GenomeStop
+genome_by stop (Ok ls) = genome_of ls
+genome_by stop (Err place) = Err (stop place)
 
 -- the genome that a text spells by letters, or what refuses it
 abbrev pub spelled_by_letters : List ℕ → Result (List Letter) GenomeStop
-spelled_by_letters bytes = genome_by_letters (letters_of bytes)
+spelled_by_letters bytes = genome_by BadLetter (letters_of bytes)
 
 -- letters spelled by letters
 abbrev pub letters_text_of : List Letter → List ℕ
@@ -69,17 +65,12 @@ is_bad_line line = not (length (word_of_line line) == 0)
 -- the letters of a text by names, or the number, from 1, of its first line that has none
 abbrev pub names_of : List ℕ → Result (List Letter) ℕ
 names_of bytes =
-    unless_faulty (position_from is_bad_line 1 (name_lines bytes))
-    (filter_map (λ line. letter_named (word_of_line line)) (name_lines bytes))
-
--- the genome of a reading by names, or what refuses it
-abbrev pub genome_by_names : Result (List Letter) ℕ → Result (List Letter) GenomeStop
-genome_by_names (Ok ls) = genome_of ls
-genome_by_names (Err line) = Err (BadName line)
+    option_map_or Err (position_from is_bad_line 1 (name_lines bytes))
+    (Ok (filter_map (λ line. letter_named (word_of_line line)) (name_lines bytes)))
 
 -- the genome that a text spells by names, or what refuses it
 abbrev pub spelled_by_names : List ℕ → Result (List Letter) GenomeStop
-spelled_by_names bytes = genome_by_names (names_of bytes)
+spelled_by_names bytes = genome_by BadName (names_of bytes)
 
 -- letters spelled by names, a line each
 abbrev pub names_text_of : List Letter → List ℕ

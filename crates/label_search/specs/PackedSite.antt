@@ -35,12 +35,3 @@ place_of site = record {
   executed = executed_in site.rest;
   copied = copied_in site.rest;
 }
-
--- the bytes that hold this
-abbrev pub packed_place : Site → Inside
-packed_place site =
-    record { letter = site.letter; rest = rest_of site.clean site.executed site.copied }
-
--- what holds of the bytes of every `Site`
-abbrev pub IsPacked : Inside → Type 0
-IsPacked site = IsRest site.rest

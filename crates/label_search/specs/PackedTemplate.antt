@@ -1,5 +1,5 @@
 -- How a `Template` is packed into one number (docs/MACHINE.md, "Templates").
-use Rattle.std.specs.Prelude.{◌≡◌, ℕ, zero, suc, ◌+◌, ◌*◌, ◌/◌, ◌%◌, ◌^◌, ◌==◌, List, [], ◌∷◌, reverse, if◌then◌else◌}
+use Rattle.std.specs.Prelude.{ℕ, zero, suc, ◌+◌, ◌*◌, ◌/◌, ◌%◌, ◌^◌, ◌==◌, List, [], ◌∷◌, reverse, if◌then◌else◌}
 use Rattle.instruction_set.specs.declared.letter.Letter.{Letter}
 use Rattle.instruction_set.specs.declared.letter.Letter.TheVariants.{NopA, NopB, NopC}
 use Rattle.label_search.specs.Template.{is_nop}
@@ -31,11 +31,6 @@ packed_of (nop ∷ nops) = packed_of nops * 4 + digit_of_nop nop
 abbrev pub nops_of : Inside → List Letter
 nops_of template = reverse (newest_first 10 template.packed)
 
--- no digit below the highest is 0, and there are at most ten
-abbrev pub IsPacked : Inside → Type 0
-IsPacked template = template.packed ≡ packed_of (newest_first 10 template.packed)
-
 -- the number once a further letter was read
 abbrev pub packed_after : ℕ → Letter → ℕ
-packed_after packed letter =
-    if is_nop letter then packed % 2 ^ 18 * 4 + digit_of_nop letter else 0
+packed_after packed letter = if is_nop letter then packed % 2 ^ 18 * 4 + digit_of_nop letter else 0

@@ -33,10 +33,7 @@ complements_of nops = map (λ letter. unwrap_or (complement_of letter) letter) n
 abbrev pub letter_after : List Letter → ℕ → ℕ → Letter
 letter_after memory place steps = slice_index_or memory ((place + steps) % length memory) NopA
 
--- the ten letters after a place
-abbrev pub letters_after : List Letter → ℕ → List Letter
-letters_after memory place = map (letter_after memory place) (range_with_len 1 10)
-
 -- the nops after a place up to the first other letter, at most ten
 unfoldable pub template_after : List Letter → ℕ → List Letter
-template_after memory place = take_while is_nop (letters_after memory place)
+template_after memory place =
+    take_while is_nop (map (letter_after memory place) (range_with_len 1 10))

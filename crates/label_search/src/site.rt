@@ -22,13 +22,16 @@ impl Model for Site {
 
     ghost Value = { Place };
 
-    ghost use Rattle.label_search.specs.PackedSite.{place_of, packed_place, IsPacked};
+    ghost use Rattle.label_search.specs.PackedSite.{place_of, rest_of, IsRest};
 
     ghost view = { place_of };
 
-    ghost invariant = { IsPacked };
+    ghost invariant = { λ site. IsRest site.rest };
 
-    ghost inverse = { packed_place };
+    ghost inverse = { λ place. record {
+      letter = place.letter;
+      rest = rest_of place.clean place.executed place.copied;
+    } };
 
     ghost inverse_ok = { λ site packed. ap (λ rest. record { letter = site.letter; rest = rest })
         (sym packed) };

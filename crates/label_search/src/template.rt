@@ -25,16 +25,16 @@ pub struct Template {
 }
 
 impl Model for Template {
-    ghost use Rattle.std.specs.Prelude.{List};
+    ghost use Rattle.std.specs.Prelude.{◌≡◌, List};
     ghost use Rattle.instruction_set.specs.declared.letter.Letter.{Letter};
 
     ghost Value = { List Letter };
 
-    ghost use Rattle.label_search.specs.PackedTemplate.{nops_of, IsPacked};
+    ghost use Rattle.label_search.specs.PackedTemplate.{newest_first, nops_of, packed_of};
 
     ghost view = { nops_of };
 
-    ghost invariant = { IsPacked };
+    ghost invariant = { λ template. template.packed ≡ packed_of (newest_first 10 template.packed) };
 }
 
 impl Template {

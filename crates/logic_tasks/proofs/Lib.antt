@@ -1,3 +1,4 @@
 pub mod BitLemmas
+pub mod InputsLaws
 pub mod PairLemmas
 pub mod TaskBitsLemmas

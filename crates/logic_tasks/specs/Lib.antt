@@ -3,4 +3,3 @@ pub mod TaskSet
 pub mod TaskBits
 pub mod TaskBitsLaws
 pub mod Inputs
-pub mod InputsLaws

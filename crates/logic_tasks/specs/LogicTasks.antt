@@ -68,17 +68,14 @@ does_pair task output known first second =
     (not (first == second) || needs_one task)
     && computes task output (slice_index_or known first 0) (slice_index_or known second 0)
 
--- the places of a list
-abbrev pub places_of : List ℕ → List ℕ
-places_of known = range_with_len 0 (length known)
-
 -- the task is done with the input at this place and that at some place
 abbrev pub does_with : Task → ℕ → List ℕ → ℕ → Bool
-does_with task output known first = list_any (does_pair task output known first) (places_of known)
+does_with task output known first =
+    list_any (does_pair task output known first) (range_with_len 0 (length known))
 
 -- the task is done with the inputs at some two places
 abbrev pub does : Task → ℕ → List ℕ → Bool
-does task output known = list_any (does_with task output known) (places_of known)
+does task output known = list_any (does_with task output known) (range_with_len 0 (length known))
 
 -- the first task of the table that is done by an output after so many inputs were read
 unfoldable pub task_done : ℤ → List ℕ → ℕ → Option Task

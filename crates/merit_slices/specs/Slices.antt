@@ -6,10 +6,6 @@ use Rattle.std.specs.List.{range_with_len}
 abbrev pub living_in : List ℕ → ℕ
 living_in merits = count_by (λ merit. nat_lt 0 merit) merits
 
--- the steps of all organisms together
-abbrev pub steps_in : List ℕ → ℕ → ℕ
-steps_in merits average = average * living_in merits
-
 -- the part of the steps that falls to a part of the merits, rounded down
 abbrev pub quota : ℕ → ℕ → ℕ → ℕ
 quota steps part all = steps * part / all
@@ -29,6 +25,5 @@ shares_of merits steps = map (share_of merits steps) (range_with_len 0 (length m
 -- the slices of a world with these merits; where all are 0 each cell gets 0
 unfoldable pub slices_of : List ℕ → ℕ → List ℕ
 slices_of merits average =
-    if sum merits == 0
-    then replicate (length merits) 0
-    else shares_of merits (steps_in merits average)
+    if sum merits == 0 then replicate (length merits) 0
+    else shares_of merits (average * living_in merits)

@@ -8,7 +8,7 @@ use Rattle.std.proofs.lemmas.Option.{cond_some}
 use Rattle.numerals.specs.Spelling.{OneNumber}
 pub use Rattle.numerals.proofs.SpellingLemmas.{numbers_spell}
 use Rattle.instruction_set.specs.declared.letter.Letter.{Letter}
-use Rattle.logic_tasks.specs.InputsLaws.{inputs_of-top}
+use Rattle.logic_tasks.proofs.InputsLaws.{inputs_of-top}
 use Rattle.logic_tasks.specs.TaskBitsLaws.{length-tasks_of}
 use Rattle.log_lines.specs.Fields.{genome_field}
 use Rattle.log_lines.specs.Kinds.{large}

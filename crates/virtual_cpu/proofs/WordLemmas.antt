@@ -12,7 +12,7 @@ use borrow.Author.Differences.{fits_in, read_fits}
 use Rattle.std.proofs.lemmas.List.Elements.{All-nil, All-cons, All-append, All-set, All-drop, All-take, All-replicate}
 use Rattle.instruction_set.specs.declared.letter.Letter.{Letter}
 use Rattle.instruction_set.specs.declared.letter.Letter.TheVariants.{NopA, NopB, NopC, IfNEqu, IfLess, IfLabel, MovHead, JmpHead, GetHead, SetFlow, ShiftR, Push, Pop, SwapStk, Swap, HCopy, HAlloc, HDivide, Io, HSearch}
-use Rattle.label_search.specs.Template.{is_nop, complements_of, letter_after, letters_after, template_after}
+use Rattle.label_search.specs.Template.{is_nop, complements_of, letter_after, template_after}
 use Rattle.label_search.specs.Search.{first_match, occurs_at}
 use Rattle.virtual_cpu.specs.declared.registers.Register.{Register}
 use Rattle.virtual_cpu.specs.declared.registers.Register.TheVariants.{Ax, Bx, Cx}
@@ -200,7 +200,7 @@ template-few : (m : Machine) → length (template_of m) ≤ 10
 unfolding template_of template_after
 template-few m = omega (
   arith,
-  take_while-few is_nop (letters_after m.memory m.heads.ip),
+  take_while-few is_nop (map (letter_after m.memory m.heads.ip) (range_with_len 1 10)),
   length-map (range_with_len 1 10) (letter_after m.memory m.heads.ip),
   length-range_with_len 1 10,
 )

@@ -4,7 +4,7 @@ use Rattle.std.specs.Prelude.{◌==◌, count_by, slice_index_or, filter, fold}
 use Rattle.std.specs.List.{AllByRecursion}
 use Rattle.std.proofs.Math.Nat.{mul-le-mul_left, div-lt_iff_lt-mul}
 use Rattle.logic_tasks.specs.Inputs.{HasTopBytes}
-use Rattle.logic_tasks.specs.InputsLaws.{inputs_of-top}
+use Rattle.logic_tasks.proofs.InputsLaws.{inputs_of-top}
 use Rattle.birth_board.specs.declared.placing.Placing.{Placing}
 use Rattle.birth_board.specs.declared.placing_round.PlacingRound.{PlacingRound}
 use Rattle.birth_board.specs.Torus.{TorusNumbers, cells_of, column_of, row_of, west_of, east_of, north_of, south_of, around, neighbours_of}

@@ -9,7 +9,7 @@ use Rattle.std.proofs.lemmas.List.FromFn.{length-map-range_with_len}
 use Rattle.std.proofs.lemmas.List.Sums.{get_or-le-sum_by}
 use Rattle.instruction_set.specs.declared.letter.Letter.{Letter}
 use Rattle.logic_tasks.specs.Inputs.{HasTopBytes, inputs_of}
-use Rattle.logic_tasks.specs.InputsLaws.{inputs_of-top}
+use Rattle.logic_tasks.proofs.InputsLaws.{inputs_of-top}
 use Rattle.logic_tasks.specs.TaskSet.{no_tasks}
 use Rattle.random_streams.specs.declared.purpose.Purpose.TheVariants.{Run}
 use Rattle.random_streams.specs.RandomStream.{draw}
