@@ -31,15 +31,13 @@ pub record ResumesInTwo (state : SavedState) (first second : ℕ) : Type 0 where
   pub goes_on : log ++ continued_text (saved_state_after state first) second
       ≡ continued_text state (first + second)
 
--- `advance` reads this input for all these updates; what it writes of the first ones is not too
--- long, and its next id and its ages are such as the lines of a saved world have
+-- `advance` reads this for all updates; what it writes of the first fits, and is not too long
 pub record CanAdvanceInTwo (bytes : List ℕ) (state : SavedState) (first second : ℕ) : Type 0 where
   pub reads : resume_input_of (first + second) bytes ≡ Ok state
   pub fits : FitsText (saved_state_after state first)
   pub short : length (advanced_text state first) ≤ 536870912
 
--- `advance` by the first updates reads the input too; by the second ones it reads what the first
--- call wrote, and writes what it writes of all updates at once
+-- `advance` by the first updates, and of what it wrote by the second, writes what all at once do
 pub record AdvancesInTwo (bytes : List ℕ) (state : SavedState) (first second : ℕ) : Type 0 where
   pub begins : resume_input_of first bytes ≡ Ok state
   pub between : SavedState

@@ -29,9 +29,8 @@ use Rattle.avida_program.specs.SaveText.{advanced_text, save_text}
 use Rattle.avida_program.specs.Status.{Ended, status_of}
 use Rattle.avida_program.specs.TraceText.{trace_text}
 
--- an input is read and its text is written. All is done where the source was read to its end and
--- `out` gained exactly the text. Of an input that is refused, or not read, nothing is written; where
--- a put fails, perhaps one of a watcher, or memory runs out, a prefix of the text is
+-- an input is read and its text written: whole where all is done, a prefix where a put fails or
+-- memory runs out, and nothing of an input that is refused or not read
 abbrev pub ReadsInput : {A : Type 0} →
     Option ℕ → (Result A Refusal → Type 0) → (A → List ℕ) → Work → Ended → Type 0
 ReadsInput looks reading text work (Ok done) = (work.source.after.left ≡ Some [])
@@ -117,8 +116,7 @@ pub record CarriesOut (command : Command) (work : Work) (ended : Ended) : Type 0
   -- the words are good, and each fault has its cause, whatever the streams tell
   pub words : ended ≢ Err error.BadWords
   pub read_fault : ended ≡ Err error.ReadFault → SourceFailed work.source
-  pub write_fault : ended ≡ Err error.WriteFault
-      → PutFailed (looks_of command) work.out work.watch
+  pub write_fault : ended ≡ Err error.WriteFault → PutFailed (looks_of command) work.out work.watch
   -- the watch stays without a watcher, and the last world but where a command leaves one when done
   pub watch_stays : looks_of command ≡ None → Stays work.watch
   pub last_stays : OnErr ended (Stays work.last)
@@ -139,8 +137,7 @@ abbrev pub Obeys : Option Command → Work → Ended → Type 0
 Obeys None work ended = DoesNothing work ended
 Obeys (Some command) work ended = CarriesOut command work ended
 
--- a call ends with this status: what it did, by how it ended, which is the status and the reason of
--- a refusal, and the line on `err` that tells of it
+-- a call ends with this status: what it did, by how it ended, and the line on `err` that tells so
 pub record Serves (command : Option Command) (work : Work) (err : Change SinkState) (s : Status)
     : Type 0 where
   pub ended : Ended

@@ -31,8 +31,7 @@ abbrev pub IsInputWith : {A : Type 0} → (Result A Refusal → Type 0) → (A �
 IsInputWith {A} reading P = (input : A) × reading (Ok input) × P input
 
 -- the bytes are read as what this function gives of them
-abbrev pub GivenBy : {A : Type 0}
-    → (List ℕ → Result A Refusal) → List ℕ → Result A Refusal → Type 0
+abbrev pub GivenBy : {A : Type 0} → (List ℕ → Result A Refusal) → List ℕ → Result A Refusal → Type 0
 GivenBy input_of bytes answer = input_of bytes ≡ answer
 
 -- the genome that is spelled so, or what refuses the bytes

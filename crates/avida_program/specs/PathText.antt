@@ -18,20 +18,17 @@ parent_text (Some id) = spaced id
 -- the base and the changes as a log has them, each with a space before it; a founder has dashes
 abbrev pub origin_text : Option BirthRecord → List ℕ
 origin_text None = codes " - -"
-origin_text (Some birth) =
-    words_text (base_word birth.written ∷ changes_word birth.changes ∷ [])
+origin_text (Some birth) = words_text (base_word birth.written ∷ changes_word birth.changes ∷ [])
 
 -- who it is, and where it came from: the id, the parent, the update and the cell
 abbrev pub place_text : Link → List ℕ
 place_text link =
-    codes "P" ++ spaced link.id ++ parent_text link.parent ++ spaced link.update
-    ++ spaced link.cell
+    codes "P" ++ spaced link.id ++ parent_text link.parent ++ spaced link.update ++ spaced link.cell
 
 -- the line of one of a line of descent
 abbrev pub path_line : Link → List ℕ
 path_line link =
-    place_text link ++ origin_text link.origin ++ codes " " ++ map byte_of link.genome
-    ++ codes "\n"
+    place_text link ++ origin_text link.origin ++ codes " " ++ map byte_of link.genome ++ codes "\n"
 
 -- a line of descent, or a dash where nobody stands
 abbrev pub path_lines : Option (List Link) → List ℕ

@@ -9,10 +9,8 @@ first_cell cells workers shard = cells * shard / workers
 
 -- a shard has the cells from the first number up to, and without, the second
 abbrev pub bounds_of : ℕ → ℕ → ℕ → ℕ × ℕ
-bounds_of cells workers shard = (
-  first_cell cells workers shard,
-  first_cell cells workers (shard + 1),
-)
+bounds_of cells workers shard =
+    (first_cell cells workers shard, first_cell cells workers (shard + 1))
 
 -- a cell is in a shard
 pub record IsInShard (cells workers shard cell : ℕ) : Type 0 where

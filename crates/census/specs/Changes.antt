@@ -26,8 +26,7 @@ lowered genotypes key =
 -- what is under a key once one organism more has the genome under another
 abbrev pub genotype_with_one : List (ℕ × GenotypeCount) → ℕ → List Letter → ℕ → Option GenotypeCount
 genotype_with_one genotypes key genome other =
-    if key == other
-    then Some (record { genome = genome; count = count_under genotypes key + 1 })
+    if key == other then Some (record { genome = genome; count = count_under genotypes key + 1 })
     else genotype_at genotypes other
 
 -- what is under a key once the genome under another has one organism fewer; with its last it goes
@@ -39,15 +38,13 @@ genotype_without_one genotypes key other =
 
 -- one more has each task of a set
 abbrev pub tasks_with : List ℕ → List Bool → List ℕ
-tasks_with counts credited =
-    map (λ task. slice_index counts (task_place task)
-    + from_bool (has_task credited task)) all_tasks
+tasks_with counts credited = map (λ task.
+    slice_index counts (task_place task) + from_bool (has_task credited task)) all_tasks
 
 -- one fewer has each task of a set
 abbrev pub tasks_without : List ℕ → List Bool → List ℕ
-tasks_without counts credited =
-    map (λ task. slice_index counts (task_place task)
-    - from_bool (has_task credited task)) all_tasks
+tasks_without counts credited = map (λ task.
+    slice_index counts (task_place task) - from_bool (has_task credited task)) all_tasks
 
 -- each task of a set is counted
 abbrev pub AreCounted : List ℕ → List Bool → Type 0

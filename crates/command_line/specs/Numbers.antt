@@ -14,8 +14,7 @@ numbers_of greatest first second third = option_and_then (λ a.
     option_map (λ c. a ∷ b ∷ c ∷ []) (number_of 0 greatest third))
     (number_of 0 greatest second)) (number_of 0 greatest first)
 
--- the three numbers up to this one that a text spells with a comma between each two; behind the
--- last comma stands nothing where there are fewer, and nothing spells no number
+-- the three numbers up to this one that a text spells with a comma between each two
 abbrev pub three_numbers_of : ℕ → List ℕ → Option (List ℕ)
 three_numbers_of greatest text =
     let others = after_first is_comma text in

@@ -12,10 +12,8 @@ use Rattle.command_line.specs.Form.{Form, Told, Valued}
 
 -- the rule of an option of a form
 abbrev pub option_rule : Valued → Rule
-option_rule option = record (new_rule option.name) {
-  long = Some option.name;
-  defaults = option_to_list option.default;
-}
+option_rule option = record (new_rule option.name)
+    { long = Some option.name; defaults = option_to_list option.default }
 
 -- the rule of a flag of this name
 abbrev pub flag_rule : List ℕ → Rule

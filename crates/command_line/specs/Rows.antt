@@ -21,12 +21,8 @@ told_by_row row words = option_and_then row.take (told_by row.form words)
 
 -- a command of this name with one number, by its name to the parser, up to this, and `--workers`
 abbrev pub positional_row : List ℕ → List ℕ → ℕ → CommandRow Positional
-positional_row name text greatest = record {
-  name = name;
-  form = positional_form;
-  texts = text ∷ [];
-  take = positional_of greatest;
-}
+positional_row name text greatest =
+    record { name = name; form = positional_form; texts = text ∷ []; take = positional_of greatest }
 
 -- `trace steps [--org] [--inputs a,b,c]`
 abbrev pub trace_row : CommandRow Trace
@@ -48,12 +44,7 @@ run_row = record {
 
 -- `save [--workers k]`
 abbrev pub save_row : CommandRow ℕ
-save_row = record {
-  name = codes "save";
-  form = workers_form;
-  texts = [];
-  take = workers_at 0;
-}
+save_row = record { name = codes "save"; form = workers_form; texts = []; take = workers_at 0 }
 
 -- `landscape steps`
 abbrev pub landscape_row : CommandRow ℕ

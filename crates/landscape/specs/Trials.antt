@@ -15,8 +15,7 @@ trial_at genome number _ = None
 
 -- the trial that the step after so many others, counted from 1, shows of an organism alone
 abbrev pub trial_after : List Letter → ℕ → Option Trial
-trial_after genome n =
-    trial_at genome (n + 1) (step_after (traced_organism genome) n).remark
+trial_after genome n = trial_at genome (n + 1) (step_after (traced_organism genome) n).remark
 
 -- the trials that so many steps show, after some others
 abbrev pub trials_from : List Letter → ℕ → ℕ → List Trial

@@ -8,8 +8,7 @@ use Rattle.avida_port.specs.Ports.{SinkState}
 
 -- the lines of the pictures of a run after these updates
 abbrev pub pictures_text : ConfigValues → List ℕ → List ℕ
-pictures_text config updates =
-    flat_map (λ update. picture_text (picture_of config update)) updates
+pictures_text config updates = flat_map (λ update. picture_text (picture_of config update)) updates
 
 -- the updates that a watcher of so many looks may write: they rise, and the last is the run's
 pub record AreWatched (looks last : ℕ) (updates : List ℕ) : Type 0 where

@@ -22,8 +22,7 @@ pub record ArePictures (config : ConfigValues) (count : ℕ) (pictures : List Wo
     : Type 0 where
   pub begins : BeginsAs config pictures
   pub count_is : length pictures ≡ count
-  pub last : (picture : WorldPicture) → last_of pictures ≡ Some picture
-      → picture.update + 1 ≡ count
+  pub last : (picture : WorldPicture) → last_of pictures ≡ Some picture → picture.update + 1 ≡ count
 
 -- a note of all pictures up to this update; there is none where only the first was published
 pub record IsHeard (config : ConfigValues) (update : ℕ) (note : Option (List WorldPicture))

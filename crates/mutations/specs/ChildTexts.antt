@@ -18,8 +18,7 @@ pub record AreTextsOfChild (range : LengthRange) (clean written : List Letter) :
 -- a birth takes the words that its record wants, at least two and at most six a letter and six
 pub record TakesWordsOfBirth (old : Stream) (rates : RateNumbers) (range : LengthRange)
     (clean written : List Letter) (new : Stream) : Type 0 where
-  pub words : new ≡ record old {
-    taken = after_birth (word_of old) old.taken rates range clean written;
-  }
+  pub words : new
+      ≡ record old { taken = after_birth (word_of old) old.taken rates range clean written }
   pub least : old.taken + 2 ≤ new.taken
   pub most : new.taken ≤ old.taken + 6 * length written + 6

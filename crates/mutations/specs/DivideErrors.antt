@@ -22,8 +22,7 @@ none_by k = record { changes = []; next = k }
 
 -- some changes, and then others
 abbrev pub in_turn : Drawn → Drawn → Drawn
-in_turn first others =
-    record { changes = first.changes ++ others.changes; next = others.next }
+in_turn first others = record { changes = first.changes ++ others.changes; next = others.next }
 
 -- the text after a test of each of its places in rising order
 abbrev pub site_text : (ℕ → ℕ) → ℕ → ℕ → List Letter → List Letter

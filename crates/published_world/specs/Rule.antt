@@ -40,8 +40,7 @@ module _ {P : Type 0} where
 
   -- the publisher appended the picture that is shown to all that was published
   abbrev pub Appends : View P → Shown P → Shown P → View P → Type 0
-  Appends v before after w =
-      w ≡ record { writes = true; seen = v.seen ++ after.picture.value ∷ [] }
+  Appends v before after w = w ≡ record { writes = true; seen = v.seen ++ after.picture.value ∷ [] }
 
 module _ {P O : Type 0} (number : P → ℕ) (of : P → O) where
   -- there is one history, whose end is shown, and each view has seen a prefix of it

@@ -22,8 +22,7 @@ has_only names (member k d ms) = list_any (λ name. bytes_eq name k) names && ha
 
 -- the value, where the table has no other key than those of every event and these names
 abbrev pub if_only : {A : Type 0} → List (List ℕ) → Members → Option A → Option A
-if_only names ms value =
-    if has_only (codes "kind" ∷ codes "update" ∷ names) ms then value else None
+if_only names ms value = if has_only (codes "kind" ∷ codes "update" ∷ names) ms then value else None
 
 -- the number that a value is, where it lies within bounds
 abbrev pub number_from : ℕ → ℕ → Option Data → Option ℕ

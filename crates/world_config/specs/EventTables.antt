@@ -38,5 +38,4 @@ event_members update (rate name ppm) =
 -- the array of the tables of events
 abbrev pub items_for : List EventValue → Items
 items_for [] = no_items
-items_for (event ∷ events) =
-    item (table (event_members event.update event.what)) (items_for events)
+items_for (event ∷ events) = item (table (event_members event.update event.what)) (items_for events)

@@ -20,8 +20,7 @@ use Rattle.world_config.specs.EventTables.{items_for}
 
 -- the keys of the world and of its run
 abbrev pub place_keys : List Key
-place_keys =
-    code.Width ∷ code.Height ∷ code.Updates ∷ code.Seed ∷ code.FounderCell ∷ []
+place_keys = code.Width ∷ code.Height ∷ code.Updates ∷ code.Seed ∷ code.FounderCell ∷ []
 
 -- the keys of how many steps an organism takes in an update, and of its death of age
 abbrev pub life_keys : List Key
@@ -29,14 +28,12 @@ life_keys = code.AverageSlices ∷ code.Death ∷ code.AgeLimit ∷ []
 
 -- the keys of the six rates of errors
 abbrev pub rate_keys : List Key
-rate_keys =
-    code.CopyError ∷ code.DivideInsert ∷ code.DivideDelete
-    ∷ code.SitePoint ∷ code.SiteInsert ∷ code.SiteDelete ∷ []
+rate_keys = code.CopyError ∷ code.DivideInsert ∷ code.DivideDelete ∷ code.SitePoint
+    ∷ code.SiteInsert ∷ code.SiteDelete ∷ []
 
 -- the keys of where a child is placed, and of what a divide must meet
 abbrev pub divide_keys : List Key
-divide_keys =
-    code.PreferEmpty ∷ code.NeedAlloc ∷ code.ExecutedPercent ∷ code.CopiedPercent ∷ []
+divide_keys = code.PreferEmpty ∷ code.NeedAlloc ∷ code.ExecutedPercent ∷ code.CopiedPercent ∷ []
 
 -- the keys of the lengths of genomes, and of the memory in which they run
 abbrev pub length_keys : List Key

@@ -1,7 +1,6 @@
 -- What refuses a configuration (docs/FORMATS.md, "The configuration"): a key without a row, then
--- the first key whose value is not what its row asks. For example, `width = 0` with `wide = 1` is
--- refused for the unknown key `wide`, and `width = 0` alone for a value that is out of range. None
--- is no refusal. Config has the refusal of an event.
+-- the first key whose value is not what its row asks, as `width = 0`; `width = 0` with `wide = 1`
+-- is refused for `wide`. None is no refusal. Config has the refusal of an event.
 use Rattle.std.specs.Prelude.{ℕ, ℤ, pos, negsuc, Bool, ◌&&◌, nat_le, if◌then◌else◌}
 use Rattle.std.specs.Prelude.{List, [], ◌∷◌, length, Option, Some, None, Result, Ok, Err}
 use Rattle.std.specs.List.{list_any}
