@@ -1,5 +1,5 @@
 -- The numbers of a machine keep their 32 bits.
-use Rattle.std.proofs.Common.{◌≡◌, refl, ℕ, ℤ, zero, suc, pos, ◌+◌, ◌-◌, ◌<◌, ◌≤◌, Bool, true, false, inl, inr, Option, Some, None, List, [], ◌∷◌, length, take, drop, replicate, All, arith, length-take}
+use Rattle.std.proofs.Common.{◌≡◌, refl, ℕ, ℤ, zero, suc, pos, ◌+◌, ◌-◌, ◌<◌, ◌≤◌, Bool, true, false, inl, inr, Option, Some, None, List, [], ◌∷◌, length, take, drop, replicate, All, arith, length-take, map}
 use Rattle.std.specs.Prelude.{FitsSigned, find, ◌-ℤ◌}
 use Rattle.std.specs.List.{range_with_len, take_while, prefix_len}
 use Rattle.std.proofs.lemmas.Bool.{cases_Bool}
