@@ -12,7 +12,7 @@ use Rattle.virtual_cpu.specs.declared.heads.Head.TheVariants.{Ip, Read, Write}
 use Rattle.virtual_cpu.specs.declared.heads.Heads.{Heads}
 use Rattle.virtual_cpu.specs.Stack.{pushed, popped}
 use Rattle.virtual_cpu.specs.Machine.{Machine, IsMachine, fresh_machine, place_after, place_of_number, with_ip_marked, with_head_at, with_flow_at, with_ip_advanced}
-use Rattle.virtual_cpu.specs.Operands.{modifier_of, on_next_place, on_modifier, on_modifier_of, template_of, on_template, on_last_of, with_ip_moved}
+use Rattle.virtual_cpu.specs.Operands.{modifier_of, on_next_place, on_modifier, on_modifier_of, template_of, on_template, on_last_of}
 use Rattle.virtual_cpu.specs.RegisterEffects.{skipping_if, active_stack, with_active_stack, with_picked}
 
 -- a machine at its start on a text
@@ -168,7 +168,8 @@ unfolding on_modifier
 on_modifier-machine m h = modifier_of-machine (modifier_of m) m h
 
 -- IP is any number of places further, across the end
-ip_moved : (m : Machine) (count : ℕ) → IsMachine m → IsMachine (with_ip_moved m count)
+ip_moved : (m : Machine) (count : ℕ) → IsMachine m
+    → IsMachine (with_head_at m Ip ((m.heads.ip + count) % length m.memory))
 ip_moved m count h = head_at m Ip _ h (rem-within m (m.heads.ip + count) h)
 
 -- IP is on the last of some nops, of which the first is marked

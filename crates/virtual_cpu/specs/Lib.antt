@@ -4,7 +4,6 @@ pub mod Stack
 pub mod Machine
 pub mod Image
 pub mod SiteLists
-pub mod Sites
 pub mod Operands
 pub mod RegisterEffects
 pub mod HeadEffects

@@ -31,16 +31,12 @@ pub record TakesTemplate (letter : Letter) : Type 0 where
   pub is : (m : Machine) (input : ℤ) (copy : Option Letter)
       → effect_of letter m input copy ≡ act (on_template m) (template_of m)
 
--- a letter passes over nothing: IP moves by one place
-abbrev pub TakesNothing : Letter → Type 0
-TakesNothing letter = (m : Machine) (input : ℤ) (copy : Option Letter)
-    → (effect_of letter m input copy).0.heads.ip
-    ≡ (m.heads.ip + 1) % length (effect_of letter m input copy).0.memory
-
--- a letter takes the operand of its class, with the default of its row
+-- a letter takes the operand of its class, with its row's default; others move IP by one place
 abbrev pub TakesOperand : Default → Class → Letter → Type 0
 TakesOperand RegisterBx _ letter = TakesRegister letter Bx
 TakesOperand RegisterCx _ letter = TakesRegister letter Cx
 TakesOperand HeadIp _ letter = TakesHead letter Ip
 TakesOperand NoDefault Template letter = TakesTemplate letter
-TakesOperand NoDefault _ letter = TakesNothing letter
+TakesOperand NoDefault _ letter = (m : Machine) (input : ℤ) (copy : Option Letter)
+    → (effect_of letter m input copy).0.heads.ip
+    ≡ (m.heads.ip + 1) % length (effect_of letter m input copy).0.memory

@@ -1,5 +1,5 @@
 -- Modifiers and templates (docs/MACHINE.md, "Modifiers", "Templates").
-use Rattle.std.specs.Prelude.{ℕ, ◌+◌, ◌%◌, Option, Some, None, List, [], ◌∷◌, length}
+use Rattle.std.specs.Prelude.{◌+◌, ◌%◌, Option, Some, None, List, [], ◌∷◌, length}
 use Rattle.instruction_set.specs.declared.letter.Letter.{Letter}
 use Rattle.instruction_set.specs.declared.letter.Letter.TheVariants.{NopA, NopB, NopC}
 use Rattle.virtual_cpu.specs.declared.registers.Register.{Register}
@@ -59,14 +59,12 @@ on_modifier m = on_modifier_of (modifier_of m) m
 unfoldable pub template_of : Machine → List Letter
 template_of m = template_after m.memory m.heads.ip
 
--- IP this many places further, across the end
-abbrev pub with_ip_moved : Machine → ℕ → Machine
-with_ip_moved m count = with_head_at m Ip ((m.heads.ip + count) % length m.memory)
-
 -- IP on the last of these nops; only the first of them is marked
 abbrev pub on_last_of : List Letter → Machine → Machine
 on_last_of [] m = m
-on_last_of (nop ∷ nops) m = with_ip_moved (on_next_place m) (length nops)
+on_last_of (nop ∷ nops) m =
+    let n = on_next_place m in
+    with_head_at n Ip ((n.heads.ip + length nops) % length n.memory)
 
 -- IP on the last nop of the template after it
 unfoldable pub on_template : Machine → Machine

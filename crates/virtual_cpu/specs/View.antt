@@ -1,5 +1,5 @@
 -- What contracts see of a `Cpu` (docs/MACHINE.md, "The machine").
-use Rattle.std.specs.Prelude.{ℕ, ◌*◌, ◌≤◌, min}
+use Rattle.std.specs.Prelude.{◌*◌, ◌≤◌, min}
 use Rattle.virtual_cpu.specs.Machine.{Machine, IsMachine}
 use Rattle.virtual_cpu.specs.declared.cpu.Cpu.TheInside.{Inside}
 
@@ -20,11 +20,7 @@ machine_view cpu = record {
   limit = cpu.limit;
 }
 
--- the places that there is room for
-abbrev pub room_of : Inside → ℕ
-room_of cpu = min cpu.limit (6 * cpu.birth_length)
-
 -- a machine, and room for all that it may grow to
 pub record IsMachineWithRoom (cpu : Inside) : Type 0 where
   pub machine : IsMachine (machine_view cpu)
-  pub room : room_of cpu ≤ cpu.sites.room
+  pub room : min cpu.limit (6 * cpu.birth_length) ≤ cpu.sites.room

@@ -20,13 +20,12 @@ pub struct Sites {
 }
 
 impl Model for Sites {
-    ghost use Rattle.virtual_cpu.specs.SiteLists.{SiteLists};
+    ghost use Rattle.std.specs.Prelude.{vec_capacity};
+    ghost use Rattle.virtual_cpu.specs.SiteLists.{SiteLists, lists_in};
 
     ghost Value = { SiteLists };
 
-    ghost use Rattle.virtual_cpu.specs.Sites.{lists_of};
-
-    ghost view = { lists_of };
+    ghost view = { λ sites. lists_in sites.items.items (vec_capacity sites.items) };
 }
 
 impl Sites {
