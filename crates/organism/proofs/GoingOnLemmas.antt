@@ -1,6 +1,6 @@
 -- A life that goes on by a step.
 use Rattle.std.proofs.Common.{◌∙◌, ◌-◌, ◌<◌, ◌^◌, ◌≡◌, ℕ, ◌+◌, ◌*◌, ◌≤◌, length, arith, ap, sym, subst}
-use Rattle.organism.specs.Newborns.{MeritsFit, LengthsFit}
+use Rattle.std.specs.List.{All}
 use Rattle.organism.specs.GoingOn.{LifeNow, GoesOn}
 use Rattle.std.specs.Prelude.{◌==◌}
 use Rattle.std.proofs.lemmas.Grind.{common_steps}
@@ -33,8 +33,8 @@ goes_on-quiet settings old new age merit genome words births = record {
   taken = omega (arith, words);
   genome = genome;
   merit = λ h. omega (arith, merit, h);
-  merits = λ h. subst MeritsFit (sym births) h;
-  lengths = λ h. subst (LengthsFit settings.rules.greatest) (sym births) h;
+  merits = λ h. subst (All _) (sym births) h;
+  lengths = λ h. subst (All _) (sym births) h;
 }
 
 -- an organism is old just where it has the age of death that it had at the start

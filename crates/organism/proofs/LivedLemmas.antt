@@ -15,15 +15,16 @@ use Rattle.organism.specs.declared.outcome.Outcome.TheVariants as outcome
 use Rattle.organism.specs.SettingNumbers.{SettingNumbers}
 use Rattle.organism.specs.OrganismState.{OrganismState}
 use Rattle.organism.specs.Life.{life_step, renewed, OnViable}
-use Rattle.organism.specs.UpdateLife.{LifeState, copy_of, after_copy_of, clean_text, written_text, child_range, birth_record, letters_made, child_letters, newborn_of, after_outcome, after_step, life_state_after, dies_at, death_in, ended, life}
+use Rattle.organism.specs.UpdateLife.{LifeState, copy_of, after_copy_of, clean_text, written_text, child_range, birth_record, child_letters, newborn_of, after_outcome, after_step, life_state_after, dies_at, death_in, ended, life}
 use Rattle.organism.specs.Lived.{IsSoundOrganism, IsBornOf, beginning, HasLived}
 use Rattle.organism.proofs.BirthLemmas.{child_part-length}
 use Rattle.organism.proofs.UpdateLifeLemmas.{state_after-zero, state_after-next}
 use Rattle.organism.proofs.SoundLemmas.{LowerLaws, IsAsked, Told, stepped, AsksWithin, within, divide_merit, born_anew}
+use Rattle.std.specs.Result.{result_unwrap_or}
 
 -- the letters of a record that applies
 made-letters : (P : List Letter → Type 0) (made : Result (List Letter) ApplyStop) → IsOkAnd made P
-    → (made ≡ Ok (letters_made made)) × P (letters_made made)
+    → (made ≡ Ok (result_unwrap_or made [])) × P (result_unwrap_or made [])
 made-letters P (Ok letters) holds = (refl, holds)
 made-letters P (Err stop) holds = absurd holds
 

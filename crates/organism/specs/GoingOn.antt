@@ -2,7 +2,8 @@
 use Rattle.std.specs.Prelude.{◌≡◌, ℕ, ◌+◌, ◌≤◌, ◌^◌, List, length}
 use Rattle.random_streams.specs.RandomStream.{Stream}
 use Rattle.organism.specs.declared.newborn.Newborn.{Newborn}
-use Rattle.organism.specs.Newborns.{MeritsFit, LengthsFit}
+use Rattle.std.specs.List.{All}
+use Rattle.genome.specs.Genome.{letters}
 use Rattle.organism.specs.OrganismState.{OrganismState}
 use Rattle.organism.specs.SettingNumbers.{SettingNumbers}
 
@@ -24,6 +25,7 @@ pub record GoesOn (settings : SettingNumbers) (steps children words : ℕ)
   pub taken : new.draws.taken ≤ old.draws.taken + words
   pub genome : new.organism.genome ≡ old.organism.genome
   pub merit : old.organism.merit ≤ 2 ^ 38 → new.organism.merit ≤ 2 ^ 38
-  pub merits : MeritsFit old.births → MeritsFit new.births
-  pub lengths : LengthsFit settings.rules.greatest old.births
-      → LengthsFit settings.rules.greatest new.births
+  pub merits : All (λ child. child.merit ≤ 2 ^ 38) old.births
+      → All (λ child. child.merit ≤ 2 ^ 38) new.births
+  pub lengths : All (λ child. length (letters child.genome) ≤ settings.rules.greatest) old.births
+      → All (λ child. length (letters child.genome) ≤ settings.rules.greatest) new.births

@@ -1,5 +1,5 @@
 -- One step of a life, with a copy error or without (docs/WORLD.md, "The life of one update").
-use Rattle.std.specs.Prelude.{ℕ, ℤ, ◌+◌, ◌*◌, ◌-◌, ◌≤◌, ◌%◌, Bool, List, Option, Some, None, length, slice_index_or, if◌then◌else◌}
+use Rattle.std.specs.Prelude.{ℕ, ℤ, ◌+◌, ◌*◌, ◌-◌, ◌≤◌, ◌%◌, Option, Some, None, length, slice_index_or, if◌then◌else◌, option_and_then}
 use Rattle.std.specs.Int.{cast_signed, w32}
 use Rattle.instruction_set.specs.declared.letter.Letter.{Letter}
 use Rattle.logic_tasks.specs.declared.task.Task.{Task}
@@ -25,22 +25,15 @@ use Rattle.organism.specs.declared.outcome.Outcome.TheVariants as outcome
 abbrev pub next_input : OrganismState → ℤ
 next_input o = cast_signed w32 (slice_index_or o.inputs (o.read % 3) 0)
 
--- the machine's step, with the letter of a copy error
-abbrev pub machine_step : OrganismState → Option Letter → Machine × StepAnswer
-machine_step o copy = step o.machine (next_input o) copy
-
 -- the machine is another, and the age is one more
 abbrev pub older : OrganismState → Machine → OrganismState
 older o machine = record o { machine = machine; age = o.age + 1 }
 
--- a task that this set does not have
-abbrev pub new_to : List Bool → Option Task → Option Task
-new_to tasks None = None
-new_to tasks (Some task) = if has_task tasks task then None else Some task
-
 -- the task that an output does with the inputs read before, where it is new to this gestation
 abbrev pub newly_done : OrganismState → ℤ → Option Task
-newly_done o output = new_to o.gestation (task_done output o.inputs o.read)
+newly_done o output =
+    option_and_then (λ task. if has_task o.gestation task then None else Some task)
+    (task_done output o.inputs o.read)
 
 -- a task is newly done, or none is
 abbrev pub with_done : OrganismState → Option Task → OrganismState × Outcome
@@ -73,9 +66,10 @@ after_letter o letter copy rules =
     let effect = effect_of letter o.machine (next_input o) copy in
     after_did (older o effect.0) rules effect.1
 
--- one step, but for the renewal that a viable divide brings
+-- one step, with the letter of a copy error, but for the renewal that a viable divide brings
 unfoldable pub life_step : OrganismState → Option Letter → RuleNumbers → OrganismState × Outcome
-life_step o copy rules = after_did (older o (machine_step o copy).0) rules (machine_step o copy).1
+life_step o copy rules =
+    let did = step o.machine (next_input o) copy in after_did (older o did.0) rules did.1
 
 -- the merit that a divide gives to parent and child
 abbrev pub divide_merit : OrganismState → DivideAsk → ℕ

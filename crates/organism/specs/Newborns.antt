@@ -1,18 +1,9 @@
 -- The newborns of an update (docs/WORLD.md, "The life of one update").
-use Rattle.std.specs.Prelude.{ℕ, ◌≤◌, ◌^◌, Bool, List, length}
-use Rattle.std.specs.List.{All}
+use Rattle.std.specs.Prelude.{ℕ, Bool, List}
 use Rattle.instruction_set.specs.declared.letter.Letter.{Letter}
 use Rattle.genome.specs.Genome.{letters}
 use Rattle.mutations.specs.BirthRecord.{BirthRecord, record_of}
 use Rattle.organism.specs.declared.newborn.Newborn.{Newborn}
-
--- no newborn has more than the greatest merit
-abbrev pub MeritsFit : List Newborn → Type 0
-MeritsFit newborns = All (λ newborn. newborn.merit ≤ 2 ^ 38) newborns
-
--- no newborn has a longer genome
-abbrev pub LengthsFit : ℕ → List Newborn → Type 0
-LengthsFit greatest newborns = All (λ newborn. length (letters newborn.genome) ≤ greatest) newborns
 
 -- a newborn as lists and numbers
 pub record NewbornValue : Type 0 where

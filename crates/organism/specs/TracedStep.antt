@@ -4,7 +4,7 @@ use Rattle.instruction_set.specs.declared.letter.Letter.{Letter}
 use Rattle.logic_tasks.specs.declared.task.Task.{Task}
 use Rattle.divide_rules.specs.declared.rule.Rule.{Rule}
 use Rattle.genome.specs.Genome.{letters}
-use Rattle.virtual_cpu.specs.Machine.{Machine, letter_under_ip}
+use Rattle.virtual_cpu.specs.Machine.{letter_under_ip}
 use Rattle.virtual_cpu.specs.Divide.{child_part}
 use Rattle.organism.specs.OrganismState.{OrganismState}
 pub use Rattle.organism.specs.OrganismState.{new_organism}
@@ -60,24 +60,16 @@ remark_on o (outcome.Viable ask) = (
       (child_part o.machine.memory ask.read ask.end),
 )
 
--- an organism after a step without errors and death, and its remark
-abbrev pub remarked : OrganismState → OrganismState × TracedRemark
-remarked o =
-    let stepped = life_step o None (trace_rules (length o.genome)) in
-    remark_on stepped.0 stepped.1
-
--- the three registers
-abbrev pub traced_registers : Machine → List ℤ
-traced_registers m = m.registers.ax ∷ m.registers.bx ∷ m.registers.cx ∷ []
-
--- a step of a trace
+-- a step of a trace, without errors and death
 unfoldable pub trace_step_of : OrganismState → OrganismState × TracedStep
-trace_step_of o = (
-  (remarked o).0,
-  record {
-    place = o.machine.heads.ip;
-    letter = letter_under_ip o.machine;
-    registers = traced_registers (remarked o).0.machine;
-    remark = (remarked o).1;
-  },
-)
+trace_step_of o =
+    let stepped = life_step o None (trace_rules (length o.genome)) in
+    let after = remark_on stepped.0 stepped.1 in
+    let registers = after.0.machine.registers in
+    let traced : TracedStep = record {
+      place = o.machine.heads.ip;
+      letter = letter_under_ip o.machine;
+      registers = registers.ax ∷ registers.bx ∷ registers.cx ∷ [];
+      remark = after.1;
+    } in
+    (after.0, traced)

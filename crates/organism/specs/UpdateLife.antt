@@ -1,6 +1,6 @@
 -- The life of one update (docs/WORLD.md, "The life of one update").
 use Rattle.std.specs.Prelude.{◌^◌, ◌-◌, ℕ, zero, suc, ◌+◌, ◌*◌, Bool, true, false, ◌&&◌, ◌==◌, List}
-use Rattle.std.specs.Prelude.{[], ◌∷◌, ◌++◌, Option, None, Some, Result, Ok, Err, length, map, find}
+use Rattle.std.specs.Prelude.{[], ◌∷◌, ◌++◌, Option, None, Some, length, map, find}
 use Rattle.std.specs.Prelude.{if◌then◌else◌}
 use Rattle.std.specs.List.{range_with_len}
 use Rattle.instruction_set.specs.declared.letter.Letter.{Letter}
@@ -8,7 +8,6 @@ use Rattle.instruction_set.specs.declared.letter.Letter.TheVariants.{HCopy}
 use Rattle.divide_rules.specs.declared.ask.DivideAsk.{DivideAsk}
 use Rattle.divide_rules.specs.Rules.{RuleNumbers}
 use Rattle.random_streams.specs.RandomStream.{Stream}
-use Rattle.mutations.specs.declared.stop.ApplyStop.{ApplyStop}
 use Rattle.mutations.specs.BirthRecord.{BirthRecord, child_of, origin_of, after_birth}
 use Rattle.mutations.specs.CopyError.{error_letter, after_error}
 use Rattle.mutations.specs.Rates.{LengthRange}
@@ -23,6 +22,7 @@ use Rattle.organism.specs.SettingNumbers.{SettingNumbers}
 use Rattle.organism.specs.Life.{after_letter, life_step, divide_merit, renewed}
 use Rattle.organism.specs.Newborns.{NewbornValue, newborn_value}
 use Rattle.organism.specs.OrganismState.{OrganismState}
+use Rattle.std.specs.Result.{result_unwrap_or}
 
 -- an organism within an update, its newborns so far, and the number of the next word
 pub record LifeState : Type 0 where
@@ -32,11 +32,8 @@ pub record LifeState : Type 0 where
 
 -- the state of an organism, its births and its stream
 abbrev pub life_state : OrganismState → List Newborn → Stream → LifeState
-life_state o births stream = record {
-  organism = o;
-  newborns = map newborn_value births;
-  next = stream.taken;
-}
+life_state o births stream =
+    record { organism = o; newborns = map newborn_value births; next = stream.taken }
 
 -- whether a letter may draw a copy error
 abbrev pub is_copy : Letter → Bool
@@ -75,16 +72,11 @@ after_child settings words k o ask =
     after_birth words k settings.rates (child_range settings.rules) (clean_text o ask)
     (written_text o ask)
 
--- the letters of a child; a refused record has none
-abbrev pub letters_made : Result (List Letter) ApplyStop → List Letter
-letters_made (Ok made) = made
-letters_made (Err stop) = []
-
--- the letters that its record makes of the parent's genome
+-- the letters that its record makes of the parent's genome; a refused record makes none
 unfoldable pub child_letters : SettingNumbers → (ℕ → ℕ) → ℕ → OrganismState → DivideAsk
     → List Letter
 child_letters settings words k o ask =
-    letters_made (child_of o.genome (birth_record settings words k o ask))
+    result_unwrap_or (child_of o.genome (birth_record settings words k o ask)) []
 
 -- the newborn of a viable divide
 abbrev pub newborn_of : SettingNumbers → (ℕ → ℕ) → LifeState → DivideAsk → NewbornValue

@@ -1,6 +1,6 @@
 -- What contracts see of an `Organism` (docs/WORLD.md, "The life of one update").
 use Rattle.genome.specs.Genome.{letters}
-use Rattle.organism.specs.OrganismState.{OrganismState, IsOrganism}
+use Rattle.organism.specs.OrganismState.{OrganismState}
 use Rattle.organism.specs.declared.organism.Organism.TheInside.{Inside}
 
 -- the organism that an `Organism` is
@@ -15,7 +15,3 @@ organism_view o = record {
   gestation = o.gestation;
   machine = o.machine;
 }
-
--- what holds of every `Organism`
-abbrev pub IsOrganismOf : Inside → Type 0
-IsOrganismOf o = IsOrganism (organism_view o)

@@ -44,15 +44,15 @@ pub struct Organism {
 }
 
 impl Model for Organism {
-    ghost use Rattle.organism.specs.OrganismState.{OrganismState};
+    ghost use Rattle.organism.specs.OrganismState.{OrganismState, IsOrganism};
 
     ghost Value = { OrganismState };
 
-    ghost use Rattle.organism.specs.View.{organism_view, IsOrganismOf};
+    ghost use Rattle.organism.specs.View.{organism_view};
 
     ghost view = { organism_view };
 
-    ghost invariant = { IsOrganismOf };
+    ghost invariant = { λ o. IsOrganism (organism_view o) };
 }
 
 impl Organism {

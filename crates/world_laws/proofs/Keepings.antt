@@ -10,11 +10,12 @@ use Rattle.virtual_cpu.specs.declared.step_answer.StepAnswer.TheVariants.{Output
 use Rattle.virtual_cpu.specs.Machine.{letter_under_ip}
 use Rattle.organism.specs.declared.outcome.Outcome.{Outcome}
 use Rattle.organism.specs.declared.outcome.Outcome.TheVariants as outcome
-use Rattle.organism.specs.Life.{after_did, after_output, life_step, machine_step, newly_done, older, renewed, with_done}
+use Rattle.organism.specs.Life.{after_did, after_output, life_step, newly_done, older, renewed, with_done, next_input}
 use Rattle.organism.specs.OrganismState.{OrganismState}
 use Rattle.organism.specs.SettingNumbers.{SettingNumbers}
 use Rattle.organism.specs.UpdateLife.{LifeState, after_copy_of, after_outcome, after_step, copy_of, death_in, ended, life, life_state_after}
 use Rattle.world_laws.specs.Keeping.{HasKept}
+use Rattle.virtual_cpu.specs.Step.{step}
 
 -- what the answer of a machine leaves of an organism: with its limit, its age and how many tasks its
 -- gestation has
@@ -52,10 +53,10 @@ did-leaves o rules _ = refl
 
 -- so does a step of one that is a step older, before a viable divide renews it
 pub step-leaves : (o : OrganismState) (copy : Option Letter) (rules : RuleNumbers)
-    → lasting (life_step o copy rules).0 ≡ lasting (older o (machine_step o copy).0)
+    → lasting (life_step o copy rules).0 ≡ lasting (older o (step o.machine (next_input o) copy).0)
 unfolding life_step
 step-leaves o copy rules =
-    did-leaves (older o (machine_step o copy).0) rules (machine_step o copy).1
+    did-leaves (older o (step o.machine (next_input o) copy).0) rules (step o.machine (next_input o) copy).1
 
 -- a list with one more is not empty
 one-more : {X : Type 0} (xs : List X) (x : X) → xs ++ x ∷ [] ≡ [] → ⊥
