@@ -16,14 +16,7 @@ use Rattle.genotype_bank.specs.BankTable.{Seated}
 
 -- a seat with its ticket and, from now on, a number of its own
 abbrev pub with_ticket : View → ℕ → ℕ → View
-with_ticket v j t = record {
-  share = v.share;
-  carried = j ∷ v.carried;
-  seen = v.seen;
-  ticket = Some t;
-  holding = false;
-  past = v.past;
-}
+with_ticket v j t = record v { carried = j ∷ v.carried; ticket = Some t; holding = false }
 
 -- a draw gives the ticket, and no call that was seen has the seat's number already
 abbrev pub HasDrawn : Step (Option Catalog) → Seated → ℕ → Seated → Type 0
@@ -33,14 +26,7 @@ HasDrawn st m r m' =
 
 -- a seat in its turn, which has seen the whole history
 abbrev pub at_turn : View → List Entry → View
-at_turn v history = record {
-  share = v.share;
-  carried = v.carried;
-  seen = history;
-  ticket = v.ticket;
-  holding = true;
-  past = v.past;
-}
+at_turn v history = record v { seen = history; holding = true }
 
 -- a look at the turn: in its own, a seat has seen the whole history, and the catalog is out with it
 abbrev pub HasLooked : Step (Option Catalog) → Seated → ℕ → Seated → Type 0

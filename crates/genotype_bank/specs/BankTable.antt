@@ -15,12 +15,6 @@ use Rattle.genotype_bank.specs.Seats.{SeatValue, all_shares}
 use Rattle.genotype_bank.specs.Catalog.{genomes_in}
 use Rattle.genotype_bank.specs.Views.{idle_view, total, draws_of, FitsHistory, AtMostOne, SomeSeat, AreSeats}
 
--- the catalog is in the slot with the genotypes of the history, or it is out with a seat
-abbrev pub CatalogLies : List Entry → List (maybe.Option (Option Catalog)) → List View → Type 0
-CatalogLies history homes views =
-    ((d : Catalog) × (homes ≡ some (Some d) ∷ []) × (genomes_in d ≡ genotypes_of history))
-    ⊎ ((homes ≡ maybe.none ∷ []) × SomeSeat (λ v. v.holding ≡ true) views)
-
 -- there is one history, of which each seat has seen a prefix, and the catalog has its genotypes.
 -- The turns before its length are over, and the tickets from there to the number of draws are out
 pub record IsBankTable (s : State (Option Catalog) View) : Type 0 where
@@ -31,7 +25,10 @@ pub record IsBankTable (s : State (Option Catalog) View) : Type 0 where
   pub turn : (t : ℕ) → AtMostOne (λ v. v.ticket ≡ Some t) s.views
   pub seats : AreSeats history s.views
   pub each : (j : ℕ) (v : View) → get_elem? s.views j ≡ some v → FitsHistory history drawn v
-  pub state : CatalogLies history s.homes s.views
+  -- the catalog is in the slot with the genotypes of the history, or it is out with a seat
+  pub state : ((d : Catalog) × (s.homes ≡ some (Some d) ∷ [])
+      × (genomes_in d ≡ genotypes_of history))
+      ⊎ ((s.homes ≡ maybe.none ∷ []) × SomeSeat (λ v. v.holding ≡ true) s.views)
 
 -- a seat's view, and what it has out of the slot
 abbrev pub Seated : Type 0
@@ -39,8 +36,7 @@ Seated = Me (Option Catalog) View
 
 -- what contracts see of a seat
 abbrev pub seat_of : TableId → Seated → SeatValue
-seat_of bank m =
-    record { bank = bank; share = m.0.share; numbers = m.0.carried; seen = m.0.seen }
+seat_of bank m = record { bank = bank; share = m.0.share; numbers = m.0.carried; seen = m.0.seen }
 
 -- a seat between two calls, which has nothing out
 pub record IsIdleSeat (m : Seated) : Type 0 where
