@@ -3,7 +3,7 @@ use Rattle.std.specs.Prelude.{◌≡◌, ℕ, ◌+◌, ◌*◌, ◌<◌, ◌^◌
 use Rattle.std.specs.List.Sorted.{IsNonDecreasing}
 use Rattle.logic_tasks.specs.Inputs.{inputs_of}
 use Rattle.random_streams.specs.declared.purpose.Purpose.TheVariants.{Place}
-use Rattle.random_streams.specs.RandomStream.{Stream, draw, scaled}
+use Rattle.random_streams.specs.RandomStream.{Stream, draw, scaled, first_of}
 use Rattle.birth_board.specs.declared.placing_round.PlacingRound.{PlacingRound}
 use Rattle.birth_board.specs.declared.placing.Placing.{Placing}
 use Rattle.birth_board.specs.Torus.{TorusNumbers, cells_of, neighbours_of}
@@ -29,13 +29,8 @@ chosen_cell torus prefer_empty occupants parent word =
 
 -- the stream of a cell's newborns, of which so many words were taken
 abbrev pub place_stream : PlacingRound → ℕ → ℕ → Stream
-place_stream round cell taken = record {
-  seed = round.seed;
-  update = round.update;
-  cell = cell;
-  purpose = Place;
-  taken = taken;
-}
+place_stream round cell taken =
+    record (first_of round.seed round.update cell Place) { taken = taken }
 
 -- the four words of newborn `nth` of a cell, from 0
 abbrev pub placing_words : PlacingRound → ℕ → ℕ → List ℕ

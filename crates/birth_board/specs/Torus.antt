@@ -15,14 +15,6 @@ torus_numbers torus = record { width = torus.width; height = torus.height }
 abbrev pub cells_of : TorusNumbers → ℕ
 cells_of torus = torus.width * torus.height
 
--- the column of a cell
-abbrev pub column_of : TorusNumbers → ℕ → ℕ
-column_of torus cell = cell % torus.width
-
--- the row of a cell
-abbrev pub row_of : TorusNumbers → ℕ → ℕ
-row_of torus cell = cell / torus.width
-
 -- the cell of a column and a row
 abbrev pub cell_at : TorusNumbers → ℕ → ℕ → ℕ
 cell_at torus column row = row * torus.width + column
@@ -58,4 +50,4 @@ around torus column row =
 
 -- the eight neighbours of a cell, with repeats
 unfoldable pub neighbours_of : TorusNumbers → ℕ → List ℕ
-neighbours_of torus cell = around torus (column_of torus cell) (row_of torus cell)
+neighbours_of torus cell = around torus (cell % torus.width) (cell / torus.width)

@@ -1,13 +1,13 @@
 -- Newborns are placed in cells of the torus, one placing each.
 use Rattle.std.proofs.Common.{ℕ, zero, suc, ◌+◌, ◌*◌, ◌/◌, ◌<◌, ◌≤◌, Bool, true, false, cond, List, [], ◌∷◌, ◌++◌, length, Option, arith}
-use Rattle.std.specs.Prelude.{◌==◌, count_by, slice_index_or, filter, fold}
+use Rattle.std.specs.Prelude.{◌==◌, count_by, slice_index_or, filter, fold, ◌%◌}
 use Rattle.std.specs.List.{AllByRecursion}
 use Rattle.std.proofs.Math.Nat.{mul-le-mul_left, div-lt_iff_lt-mul}
 use Rattle.logic_tasks.specs.Inputs.{HasTopBytes}
 use Rattle.logic_tasks.proofs.InputsLaws.{inputs_of-top}
 use Rattle.birth_board.specs.declared.placing.Placing.{Placing}
 use Rattle.birth_board.specs.declared.placing_round.PlacingRound.{PlacingRound}
-use Rattle.birth_board.specs.Torus.{TorusNumbers, cells_of, column_of, row_of, west_of, east_of, north_of, south_of, around, neighbours_of}
+use Rattle.birth_board.specs.Torus.{TorusNumbers, cells_of, west_of, east_of, north_of, south_of, around, neighbours_of}
 use Rattle.birth_board.specs.Placement.{Board, is_free, choices_of, chosen_cell, placing_words, placing_of, next_placing, next_board, placements_of}
 
 -- in the torus
@@ -67,8 +67,8 @@ unfolding neighbours_of
 neighbours_in torus cell h =
     let some = wide torus.width torus.height cell h in
     let rows = tall torus.width torus.height cell h in
-    let column : column_of torus cell < torus.width = omega (arith, some) in
-    around_in torus (column_of torus cell) (row_of torus cell) some rows column
+    let column : cell % torus.width < torus.width = omega (arith, some) in
+    around_in torus (cell % torus.width) (cell / torus.width) some rows column
     (row_in torus.width torus.height cell some h)
 
 -- what holds of all of two lists holds of all of whichever is taken
