@@ -21,23 +21,21 @@ pub record AssayValue : Type 0 where
   pub last : Stats
   pub dominant : Option (List Letter)
 
--- what becomes of a configuration's run
-abbrev pub assay_of_run : ConfigValues → AssayValue
-assay_of_run config = record {
-  seed = config.seed;
-  births = births_until config config.updates;
-  deaths = deaths_until config config.updates;
-  last = stats_of config config.updates;
-  dominant = dominant_after config config.updates;
-}
-
 -- the same configuration with this seed
 abbrev pub with_seed : ConfigValues → ℕ → ConfigValues
 with_seed config seed = record config { seed = seed }
 
 -- what becomes of the run of the same configuration with this seed
 abbrev pub assay_of_seed : ConfigValues → ℕ → AssayValue
-assay_of_seed config seed = assay_of_run (with_seed config seed)
+assay_of_seed config seed =
+    let run = with_seed config seed in
+    record {
+      seed = seed;
+      births = births_until run run.updates;
+      deaths = deaths_until run run.updates;
+      last = stats_of run run.updates;
+      dominant = dominant_after run run.updates;
+    }
 
 -- what becomes of the runs with so many seeds, from the first on, one after another
 unfoldable pub assay_list : ConfigValues → ℕ → ℕ → List AssayValue

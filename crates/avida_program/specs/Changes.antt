@@ -23,10 +23,6 @@ OnBytes source P = (bytes : List ℕ) → source.before.left ≡ Some bytes → 
 abbrev pub SourceFailed : Change SourceState → Type 0
 SourceFailed source = Rose source.before.faults source.after.faults
 
--- the faults or the wants of a sink rose
-abbrev pub SinkStopped : Change SinkState → Type 0
-SinkStopped sink = SinkFailed sink ⊎ Rose sink.before.wants sink.after.wants
-
 -- a text is written whole, or a prefix where a put fails or memory runs out; nothing else ends it
 abbrev pub WritesText : List ℕ → Change SinkState → Ended → Type 0
 WritesText text out (Ok done) = GainedText out text
@@ -39,7 +35,8 @@ pub record TellsFault (err : Change SinkState) (e : CallError) : Type 0 where
   -- the line, or a prefix of it
   pub front : GainedFront err (fault_line e)
   -- and the whole line where no put to `err` has failed or run out of memory
-  pub whole : ¬ SinkStopped err → GainedText err (fault_line e)
+  pub whole : ¬ (SinkFailed err ⊎ Rose err.before.wants err.after.wants)
+      → GainedText err (fault_line e)
 
 -- `err` tells how a call ended: nothing where all is done, and else the fault line
 abbrev pub TellsOf : Change SinkState → Ended → Type 0

@@ -15,15 +15,11 @@ others_from letter from len =
     filter_map letter_at (filter (λ index. not (index == index_of letter))
     (range_with_len from len))
 
--- all letters but this one, in order of their indexes
-abbrev pub other_letters : Letter → List Letter
-other_letters letter = others_from letter 0 26
-
 -- the changes of a place to each other letter
 abbrev pub changes_at : List Letter → ℕ → List Change
 changes_at genome at =
     map (λ letter. record { at = at; letter = letter })
-    (other_letters (slice_index_or genome at NopA))
+    (others_from (slice_index_or genome at NopA) 0 26)
 
 -- the changes of one letter, places rising, letters rising within a place
 unfoldable pub changes_of : List Letter → List Change

@@ -11,13 +11,9 @@ abbrev pub organism_alone : List Letter → List ℕ → OrganismState
 organism_alone letters inputs =
     new_organism letters inputs (length letters) no_tasks (trace_greatest (length letters))
 
--- the inputs of a trace to which none are given
-abbrev pub trace_inputs : List ℕ
-trace_inputs = 0x0F0F0F0F ∷ 0x33333333 ∷ 0x55555555 ∷ []
-
--- the organism that such a trace begins with
+-- the organism that a trace begins with to which no inputs are given
 abbrev pub traced_organism : List Letter → OrganismState
-traced_organism letters = organism_alone letters trace_inputs
+traced_organism letters = organism_alone letters (0x0F0F0F0F ∷ 0x33333333 ∷ 0x55555555 ∷ [])
 
 -- the organism after so many of its steps
 abbrev pub organism_after : OrganismState → ℕ → OrganismState

@@ -1,6 +1,6 @@
 // The changes of one letter.
 ghost use Rattle.std.specs.Prelude.{◌≡◌, ◌≤◌, ◌++◌, IfOk, OnOk, length, map};
-ghost use Rattle.landscape.specs.Landscape.{changes_of, other_letters};
+ghost use Rattle.landscape.specs.Landscape.{changes_of, others_from};
 
 use avida_port::Memory;
 use instruction_set::{LETTER_COUNT, Letter};
@@ -28,7 +28,7 @@ pub fn changes_of(alloc: Global, genome: &[Letter]) -> Result<Vec<Change>, Memor
 
 fn push_changes(changes: &mut Vec<Change>, at: u32, letter: Letter) -> Result<(), Memory>
     ensures { OnOk result (changes.new.items ≡ changes.old.items
-        ++ map (λ other. record { at = at; letter = other }) (other_letters letter)) }
+        ++ map (λ other. record { at = at; letter = other }) (others_from letter 0 26)) }
 {
     for index in 0..LETTER_COUNT {
         if index == letter.index() {

@@ -16,7 +16,7 @@ use Rattle.world_config.specs.declared.stop.ConfigStop.{ConfigStop}
 use Rattle.world_config.specs.declared.stop.ConfigStop.TheVariants.{UnknownKey}
 use Rattle.world_config.specs.KeyTable.{Frame, key_name, key_row, keys}
 use Rattle.world_config.specs.Bounds.{frame_of}
-use Rattle.world_config.specs.Lookup.{flag_at, frame_in, genome_at, items_at, letters_or_none}
+use Rattle.world_config.specs.Lookup.{flag_at, frame_in, genome_at, items_at}
 use Rattle.world_config.specs.Lookup.{number_at}
 use Rattle.world_config.specs.Refusal.{first_refusal, is_known, least_unknown}
 use Rattle.world_config.specs.Refusal.{refusal_at, refusal_of}
@@ -30,6 +30,7 @@ use Rattle.world_config.specs.Printing.{members_for, with_keys}
 use Rattle.world_config.proofs.KindLemmas.{IsOfKind, accepted_value}
 use Rattle.world_config.proofs.PrintLemmas.{IsFrame, events_of-items, item_count-items}
 use Rattle.world_config.proofs.PrintLemmas.{items_depth-events, spelled_by_letters-text}
+use Rattle.std.specs.Result.{result_unwrap_or}
 
 -- the frame of the values
 abbrev pub values_frame : ConfigValues → Frame
@@ -53,7 +54,7 @@ items_at-members v = refl
 -- the table has the letters of the ancestor
 genome_at-members : (v : ConfigValues)
     → genome_at code.Ancestor (members_for v)
-    ≡ letters_or_none (spelled_by_letters (letters_text_of v.ancestor))
+    ≡ result_unwrap_or (spelled_by_letters (letters_text_of v.ancestor)) []
 unfolding genome_at
 genome_at-members v = refl
 
@@ -113,7 +114,7 @@ config_in-members c =
     (events_of (frame_in ms) (items_at code.Event ms))))
     (refusal-members v ∙ none_refused c read keys)
     ∙ ap (values_with ms) happening
-    ∙ ap Ok (values_in-members v (genome_at-members v ∙ ap letters_or_none read))
+    ∙ ap Ok (values_in-members v (genome_at-members v ∙ ap (λ r. result_unwrap_or r []) read))
 
 -- the deeper of two is not deeper than both
 max_within : (a b : ℕ) → a ≤ 2 → b ≤ 2 → max a b ≤ 2

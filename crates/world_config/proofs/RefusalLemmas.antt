@@ -19,7 +19,7 @@ use Rattle.world_config.specs.EventForms.{events_of}
 use Rattle.world_config.specs.Values.{ConfigValues, values_in_table}
 use Rattle.world_config.specs.Config.{unless_refused, values_with}
 use Rattle.world_config.specs.Members.{event_refusal}
-use Rattle.world_config.specs.Groups.{AreNumbers, last_keys, number_keys, numbers_frame}
+use Rattle.world_config.specs.Groups.{AreNumbers, number_keys, numbers_frame}
 
 -- the first of three refusals
 option_or-assoc : (a b c : Option ConfigStop) → option_or (option_or a b) c ≡ option_or a (option_or b c)
@@ -79,7 +79,7 @@ pub first_refusal-last : (ms : Members) (numbers : Numbers) → AreNumbers ms nu
     (option_or (refusal_of (events 1000) code.Event (value_or code.Event (array no_items) ms)) None)
 first_refusal-last ms numbers are accepted =
     rw (
-      first_refusal-append number_keys last_keys ms,
+      first_refusal-append number_keys (code.Ancestor ∷ code.Event ∷ []) ms,
       accepted,
       refusal_at-ancestor (frame_in ms) ms,
       refusal_at-event (frame_in ms) ms,

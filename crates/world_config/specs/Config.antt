@@ -13,6 +13,7 @@ use Rattle.world_config.specs.Refusal.{refusal_in}
 use Rattle.world_config.specs.Events.{EventValue}
 use Rattle.world_config.specs.EventForms.{events_of}
 use Rattle.world_config.specs.Values.{ConfigValues}
+use Rattle.std.specs.Option.{option_map_or}
 pub use Rattle.world_config.specs.Values.{values_in_table}
 
 -- what a table says with the events that were read, or the refusal of the nth member of its array
@@ -32,11 +33,7 @@ config_in ms =
     unless_refused (refusal_in ms)
     (values_with ms (events_of (frame_in ms) (items_at code.Event ms)))
 
--- the configuration of a document's table; there is none where the bytes are no TOML document
-abbrev pub config_of_table : Option Members → Result ConfigValues ConfigStop
-config_of_table (Some ms) = config_in ms
-config_of_table None = Err BadToml
-
 -- the configuration that a document states, or its first refusal
 abbrev pub config_of : List ℕ → Result ConfigValues ConfigStop
-config_of bytes = config_of_table (if is_utf8 bytes then parse_document bytes else None)
+config_of bytes =
+    option_map_or config_in (if is_utf8 bytes then parse_document bytes else None) (Err BadToml)

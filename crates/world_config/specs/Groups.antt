@@ -43,10 +43,6 @@ length_keys = code.LeastLength ∷ code.GreatestLength ∷ code.MemoryLimit ∷ 
 abbrev pub number_keys : List Key
 number_keys = place_keys ++ (life_keys ++ (rate_keys ++ (divide_keys ++ length_keys)))
 
--- the keys after these
-abbrev pub last_keys : List Key
-last_keys = code.Ancestor ∷ code.Event ∷ []
-
 -- the group has the table's values at the keys of the world and of its run
 pub record ArePlace (ms : Members) (place : PlaceKeys) : Type 0 where
   pub width : number_at (frame_in ms) code.Width ms ≡ place.width

@@ -1,15 +1,15 @@
 -- The values of a document's table at the keys, or their defaults (docs/FORMATS.md, "The
 -- configuration"). What is of another kind counts as 0, false or nothing, since Refusal rejects it.
 -- `Members` are the keys of a table with their values, and `Items` the members of an array.
-use Rattle.std.specs.Prelude.{ℕ, pos, ◌+◌, ◌-◌, ◌*◌, Bool, false, List, [], unwrap_or, Result, Ok, Err}
+use Rattle.std.specs.Prelude.{ℕ, pos, ◌+◌, ◌-◌, ◌*◌, Bool, false, List, [], unwrap_or}
 use Rattle.toml.specs.Data.{Data, string, integer, boolean, array}
 use Rattle.toml.specs.Data.{Items, no_items, item, Members, get_member}
 use Rattle.instruction_set.specs.declared.letter.Letter.{Letter}
-use Rattle.genome.specs.declared.stop.GenomeStop.{GenomeStop}
 use Rattle.genome.specs.GenomeText.{spelled_by_letters}
 use Rattle.world_config.specs.declared.key.Key.{Key}
 use Rattle.world_config.specs.declared.key.Key.TheVariants as code
 use Rattle.world_config.specs.KeyTable.{KeyRow, Frame, no_frame, key_name, key_row}
+use Rattle.std.specs.Result.{result_unwrap_or}
 
 -- the value at the row's name, or the row's default
 abbrev pub value_at : KeyRow → Members → Data
@@ -29,14 +29,9 @@ abbrev pub flag_or_false : Data → Bool
 flag_or_false (boolean b) = b
 flag_or_false _ = false
 
--- the letters of a genome that was read, and no letters where the reading was refused
-abbrev pub letters_or_none : Result (List Letter) GenomeStop → List Letter
-letters_or_none (Ok ls) = ls
-letters_or_none (Err stop) = []
-
 -- the letters that a value spells, and no letters for what is no genome
 abbrev pub letters_of_value : Data → List Letter
-letters_of_value (string text) = letters_or_none (spelled_by_letters text)
+letters_of_value (string text) = result_unwrap_or (spelled_by_letters text) []
 letters_of_value _ = []
 
 -- the members of an array, and no members for what is no array
