@@ -13,7 +13,7 @@ use Rattle.log_lines.specs.Forms.{birth_form, start_form}
 use Rattle.log_lines.specs.Kinds.{small, large, over_field, record_row, side}
 use Rattle.log_lines.specs.LineReading.{read_as}
 use Rattle.log_lines.specs.Rows.{read_both, read_last}
-use Rattle.log_lines.specs.Words.{read_arrival, read_first, read_height, read_newborn, read_opening, read_parent, read_place, read_then, read_width}
+use Rattle.log_lines.specs.Words.{read_arrival, read_first, read_newborn, read_opening, read_then}
 
 -- the words that are left of a line
 abbrev pub Left : Type 0
@@ -90,7 +90,7 @@ arrival_begins : {B : Type 0} (behind : Left → Option B)
     → Begins (read_both small.read (read_both small.read (read_both over_field.read behind)))
     read_arrival behind arrival_fields
 arrival_begins behind =
-    begins_more small.read _ read_place behind place_fields put_arrival _ (λ a b c. refl)
+    begins_more small.read _ _ behind place_fields put_arrival _ (λ a b c. refl)
     (begins_more small.read _ _ behind pair pair _ (λ a b c. refl)
     (begins_one over_field.read behind))
 
@@ -116,7 +116,7 @@ birth_fields n birth = (n.id, (n.parent, arrival_fields n.arrival birth))
 birth_begins : Begins birth_form.row.read read_newborn record_row.read birth_fields
 birth_begins =
     let behind = record_row.read in
-    begins_more large.read _ read_parent behind parent_fields put_newborn _ (λ a b c. refl)
+    begins_more large.read _ _ behind parent_fields put_newborn _ (λ a b c. refl)
     (begins_more large.read _ read_arrival behind arrival_fields pair _ (λ a b c. refl)
     (arrival_begins behind))
 
@@ -154,8 +154,8 @@ start_fields o genome = (o.version, (o.width, (o.height, (o.cell, genome))))
 start_begins : Begins start_form.row.read read_opening (read_last genome_of_word) start_fields
 start_begins =
     let behind = read_last genome_of_word in
-    begins_more (number 1 2).read _ read_width behind width_fields put_opening _ (λ a b c. refl)
-    (begins_more side.read _ read_height behind height_fields pair _ (λ a b c. refl)
+    begins_more (number 1 2).read _ _ behind width_fields put_opening _ (λ a b c. refl)
+    (begins_more side.read _ _ behind height_fields pair _ (λ a b c. refl)
     (begins_more side.read _ _ behind pair pair _ (λ a b c. refl)
     (begins_one small.read behind)))
 

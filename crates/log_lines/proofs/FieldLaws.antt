@@ -11,7 +11,7 @@ use Rattle.instruction_set.specs.declared.letter.Letter.{Letter}
 use Rattle.instruction_set.specs.Letter.{byte_of, letter_of_byte}
 use Rattle.mutations.specs.Change.{is_genome_length}
 use Rattle.numerals.specs.Spelling.{OneNumber}
-use Rattle.log_lines.specs.Fields.{Field, given, number, genome_of_word, genome_field, text_or, FitsOr, or_sign, each, where_true}
+use Rattle.log_lines.specs.Fields.{Field, given, number, genome_of_word, genome_field, or_sign, each, where_true}
 use Rattle.log_lines.specs.Rows.{Row, read_last, last, read_both, ◌◂◌}
 use Rattle.log_lines.proofs.LetterLemmas.{byte_of_letter, letter_of_byte-byte_of, letter_above}
 
@@ -196,7 +196,8 @@ module _ {A : Type 0} {f : Field A} {c : ℕ} (law : IsField c f) where
 
   module _ (sign : ℕ) (none : f.read (sign ∷ []) ≡ None) where
     -- a sign or a value is read again
-    or_again : (a : Option A) → FitsOr f a → (or_sign sign f).read (text_or sign f a) ≡ Some a
+    or_again : (a : Option A) → (or_sign sign f).Fits a
+        → (or_sign sign f).read ((or_sign sign f).text a) ≡ Some a
     or_again None fits = let t : bytes_eq (sign ∷ []) (sign ∷ []) ≡ true =
         grind (arith, bytes_eq-Decides (sign ∷ []) (sign ∷ [])) in rw t refl
     or_again (Some a) fits =
@@ -205,7 +206,7 @@ module _ {A : Type 0} {f : Field A} {c : ℕ} (law : IsField c f) where
 
     -- what is read as a sign or a value was written so
     or_takes : (word : List ℕ) (a : Option A) → (or_sign sign f).read word ≡ Some a
-        → (text_or sign f a ≡ word) × FitsOr f a
+        → ((or_sign sign f).text a ≡ word) × (or_sign sign f).Fits a
     or_takes word a is = elim (chosen (bytes_eq word (sign ∷ [])) _ _ a is) [
       | inl l ↦
           let e : None ≡ a = cc in rw (← e) (sym (same_bytes word (sign ∷ []) l.0), tt)
@@ -215,7 +216,8 @@ module _ {A : Type 0} {f : Field A} {c : ℕ} (law : IsField c f) where
     ]
 
     -- a sign or a value has no byte up to the bound
-    or_plain : c < sign → (a : Option A) → FitsOr f a → Above c (text_or sign f a)
+    or_plain : c < sign → (a : Option A) → (or_sign sign f).Fits a
+        → Above c ((or_sign sign f).text a)
     or_plain low None fits = (low, tt)
     or_plain low (Some a) fits = law.plain a fits
 

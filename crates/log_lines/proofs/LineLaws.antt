@@ -11,13 +11,46 @@ use Rattle.log_lines.specs.Fields.{Field}
 use Rattle.log_lines.specs.Rows.{Row, ◌◂◌}
 use Rattle.log_lines.specs.Line.{Line, Start, Death, Birth, Injected, Cleared, Rate, Count, End}
 use Rattle.log_lines.specs.Kinds.{small, large, side, death_row, arrival_then, record_row}
-use Rattle.log_lines.specs.Forms.{LineForm, filled, forms, filled_form, filled_text, FitsForm, start_form, death_form, birth_form, injected_form, cleared_form, rate_form, count_form, end_form}
-use Rattle.log_lines.specs.LineText.{HasForm, row_text, words_text}
+use Rattle.log_lines.specs.Forms.{LineForm, forms, start_form, death_form, birth_form, injected_form, cleared_form, rate_form, count_form, end_form}
+use Rattle.log_lines.specs.LineText.{HasForm, row_text, words_text, form_text}
 use Rattle.log_lines.specs.LineReading.{read_as, read_by, read_words, line_of}
 use Rattle.log_lines.proofs.FieldLaws.{Above, IsField, IsRow, chosen, some_map, number_law, letters_law, last_law, row_law}
 use Rattle.log_lines.proofs.ListLaws.{times_law}
 use Rattle.log_lines.proofs.RowLaws.{words_in, joined_words, row_words, row_plain, row_takes}
 use Rattle.log_lines.proofs.KindLaws.{low, small_law, large_law, rate_law, over_law, base_law, changes_law}
+
+-- a form with a value of its fields
+record FilledForm : Type 1 where
+  form : LineForm
+  fields : form.Fields
+
+-- a form with these fields
+abbrev filled : (form : LineForm) → form.Fields → FilledForm
+filled form fields = record { form = form; fields = fields }
+
+-- the form that a line has, with the values of its fields
+abbrev filled_form : Line → FilledForm
+filled_form (Start version width height cell genome) =
+    filled start_form (version, (width, (height, (cell, genome))))
+filled_form (Death id update cell) = filled death_form (id, (update, cell))
+filled_form (Birth id parent update cell over birth) =
+    filled birth_form (id, (parent, (update, (cell, (over, (birth.written, birth.changes))))))
+filled_form (Injected id update cell over genome) =
+    filled injected_form (id, (update, (cell, (over, genome))))
+filled_form (Cleared id update cell) = filled cleared_form (id, (update, cell))
+filled_form (Rate update name ppm) = filled rate_form (update, (name, ppm))
+filled_form (Count s) =
+    filled count_form
+    (s.update, (s.living, (s.births, (s.deaths, (s.genotypes, (s.merit, s.tasks))))))
+filled_form (End updates) = filled end_form updates
+
+-- the text of a form with a value of its fields
+abbrev filled_text : FilledForm → List ℕ
+filled_text filled = form_text filled.form.mark filled.form.row filled.fields
+
+-- the fields have values that the form allows
+abbrev FitsForm : FilledForm → Type 0
+FitsForm filled = filled.form.row.Fits filled.fields
 
 -- what is said of a line directly is what its form says
 record IsFilled (line : Line) : Type 0 where

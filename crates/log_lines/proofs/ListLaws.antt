@@ -6,7 +6,7 @@ use Rattle.std.specs.Str.{bytes_eq}
 use Rattle.std.specs.List.{slice_split, join_with_byte, AllByRecursion}
 use Rattle.std.proofs.lemmas.Bool.{eqb-true}
 use Rattle.std.proofs.lemmas.List.Splits.{join_with_byte-slice_split}
-use Rattle.log_lines.specs.Fields.{Field, each, list_text, list_of}
+use Rattle.log_lines.specs.Fields.{Field, each, list_of}
 use Rattle.log_lines.specs.Rows.{times}
 use Rattle.log_lines.proofs.FieldLaws.{Above, IsField, IsRow, above_lower, above_append, not_equal, same_bytes, split_first, split_one, some_map, some_then, some_text, chosen, each_again, each_takes}
 
@@ -75,7 +75,7 @@ words_above c d (word ∷ next ∷ words) h all =
 module _ {A : Type 0} {f : Field A} (law : IsField 44 f) (none : f.read (45 ∷ []) ≡ None) where
   -- a list is read again
   list_again : (items : List A) → AllByRecursion f.Fits items
-      → (list_of f).read (list_text f items) ≡ Some items
+      → (list_of f).read ((list_of f).text items) ≡ Some items
   list_again [] fits = refl
   list_again (a ∷ items) fits =
       let text = join_with_byte 44 (map f.text (a ∷ items)) in
@@ -90,7 +90,7 @@ module _ {A : Type 0} {f : Field A} (law : IsField 44 f) (none : f.read (45 ∷ 
 
   -- items read from the pieces of a word have the word as their text
   list_joined : (word : List ℕ) (items : List A)
-      → map f.text items ≡ slice_split (λ b. b == 44) word → list_text f items ≡ word
+      → map f.text items ≡ slice_split (λ b. b == 44) word → (list_of f).text items ≡ word
   list_joined [] [] is = absurd cc
   list_joined (b ∷ bs) [] is =
       let e : [] ≡ b ∷ bs = ap (λ (ws : List (List ℕ)). join_with_byte 44 ws) is
@@ -100,11 +100,11 @@ module _ {A : Type 0} {f : Field A} (law : IsField 44 f) (none : f.read (45 ∷ 
 
   -- what is read as a list was written so
   list_takes : (word : List ℕ) (items : List A) → (list_of f).read word ≡ Some items
-      → (list_text f items ≡ word) × AllByRecursion f.Fits items
+      → ((list_of f).text items ≡ word) × AllByRecursion f.Fits items
   list_takes word items is = elim (chosen (bytes_eq word (45 ∷ [])) _ _ items is) [
     | inl l ↦
         let e : [] ≡ items = cc in
-        subst (λ (l : List A). (list_text f l ≡ word) × AllByRecursion f.Fits l) e
+        subst (λ (l : List A). ((list_of f).text l ≡ word) × AllByRecursion f.Fits l) e
         (sym (same_bytes word (45 ∷ []) l.0), tt)
     | inr r ↦ let t = each_takes f.text f.read f.Fits law.takes
         (slice_split (λ b. b == 44) word) items r.1 in
@@ -112,7 +112,7 @@ module _ {A : Type 0} {f : Field A} (law : IsField 44 f) (none : f.read (45 ∷ 
   ]
 
   -- a list has no byte below a comma
-  list_plain : (items : List A) → AllByRecursion f.Fits items → Above 43 (list_text f items)
+  list_plain : (items : List A) → AllByRecursion f.Fits items → Above 43 ((list_of f).text items)
   list_plain [] fits = (omega arith, tt)
   list_plain (a ∷ items) fits =
       words_above 43 44 (map f.text (a ∷ items)) (omega arith) (each_plain law (a ∷ items) fits)

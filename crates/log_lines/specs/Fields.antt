@@ -51,32 +51,20 @@ genome_field =
       Fits = λ ls. is_genome_length (length ls) ≡ true;
     }
 
--- a sign for none, or the text of a value
-abbrev pub text_or : {A : Type 0} → ℕ → Field A → Option A → List ℕ
-text_or sign f value = option_map_or f.text value (sign ∷ [])
-
--- none, or a value that the field allows
-abbrev pub FitsOr : {A : Type 0} → Field A → Option A → Type 0
-FitsOr f value = IfSome value f.Fits
-
 -- a value that may be missing: a sign for none, such as `-`, or the text of the value
 abbrev pub or_sign : {A : Type 0} → ℕ → Field A → Field (Option A)
 or_sign sign f =
     record {
-      text = text_or sign f;
+      text = λ value. option_map_or f.text value (sign ∷ []);
       read = λ word. if bytes_eq word (sign ∷ []) then Some None else option_map Some (f.read word);
-      Fits = FitsOr f;
+      Fits = λ value. IfSome value f.Fits;
     }
-
--- a dash for an empty list, or the texts of its items, parted by commas
-abbrev pub list_text : {A : Type 0} → Field A → List A → List ℕ
-list_text f items = comma_word (map f.text items)
 
 -- a list of items: a dash if it is empty, else items parted by commas, as in `p4k,d9`
 abbrev pub list_of : {A : Type 0} → Field A → Field (List A)
 list_of f =
     record {
-      text = list_text f;
+      text = λ items. comma_word (map f.text items);
       read = λ word. if bytes_eq word (code "-" ∷ []) then Some []
           else each f.read (slice_split (λ b. b == code ",") word);
       Fits = AllByRecursion f.Fits;

@@ -5,34 +5,22 @@ use Prim.Native.Char.{code}
 use Rattle.std.specs.Prelude.{ℕ, List, [], ◌∷◌}
 use Rattle.random_streams.specs.RandomStream.{million}
 use Rattle.log_lines.specs.Line.{Line, Start, Death, Birth, Injected, Cleared, Rate, Count, End}
-use Rattle.log_lines.specs.LineText.{form_text}
 use Rattle.log_lines.specs.Fields.{number, genome_field}
 use Rattle.log_lines.specs.Rows.{Row, last, times, ◌◂◌}
 use Rattle.log_lines.specs.Kinds.{small, large, side, rate_name, death_row, arrival_then, record_row}
 
--- a form of lines: the type of its fields, the byte in front, the row that writes and reads the
--- fields, and the line that they tell
+-- a form of lines: its fields, the byte in front, the row of the fields, and the line they tell
 pub record LineForm : Type 1 where
   pub Fields : Type 0
   pub mark : ℕ
   pub row : Row Fields
   pub line : Fields → Line
 
--- a form with a value of its fields
-pub record FilledForm : Type 1 where
-  pub form : LineForm
-  pub fields : form.Fields
-
 -- the form with this mark and this row, whose fields tell this line
 abbrev pub line_form : {A : Type 0} → ℕ → Row A → (A → Line) → LineForm
 line_form {A} mark row line = record { Fields = A; mark = mark; row = row; line = line }
 
--- a form with these fields
-abbrev pub filled : (form : LineForm) → form.Fields → FilledForm
-filled form fields = record { form = form; fields = fields }
-
--- the first line: the version, which is 1 or 2, the width and the height of the world, and the
--- founder's cell and letters
+-- the first line: the version, 1 or 2, the world's width and height, the founder's cell and letters
 abbrev pub start_form : LineForm
 start_form =
     line_form (code "L") (number 1 2 ◂ side ◂ side ◂ small ◂ last genome_field)
@@ -65,8 +53,7 @@ rate_form =
     line_form (code "R") (small ◂ rate_name ◂ last (number 0 million))
     (λ (update, (name, ppm)). Rate update name ppm)
 
--- the end of an update: its number, how many live, the births and deaths in it, the number of
--- different genomes, the sum of merits, and for each of the nine tasks how many have done it
+-- the end of an update: living, births, deaths, genotypes, sum of merits, how many did each task
 abbrev pub count_form : LineForm
 count_form =
     line_form (code "U") (small ◂ large ◂ large ◂ large ◂ large ◂ large ◂ times 9 large)
@@ -93,27 +80,3 @@ abbrev pub forms : List LineForm
 forms =
     start_form ∷ death_form ∷ birth_form ∷ injected_form ∷ cleared_form ∷ rate_form ∷ count_form
     ∷ end_form ∷ []
-
--- the form that a line has, with the values of its fields
-abbrev pub filled_form : Line → FilledForm
-filled_form (Start version width height cell genome) =
-    filled start_form (version, (width, (height, (cell, genome))))
-filled_form (Death id update cell) = filled death_form (id, (update, cell))
-filled_form (Birth id parent update cell over birth) =
-    filled birth_form (id, (parent, (update, (cell, (over, (birth.written, birth.changes))))))
-filled_form (Injected id update cell over genome) =
-    filled injected_form (id, (update, (cell, (over, genome))))
-filled_form (Cleared id update cell) = filled cleared_form (id, (update, cell))
-filled_form (Rate update name ppm) = filled rate_form (update, (name, ppm))
-filled_form (Count s) =
-    filled count_form
-    (s.update, (s.living, (s.births, (s.deaths, (s.genotypes, (s.merit, s.tasks))))))
-filled_form (End updates) = filled end_form updates
-
--- the text of a form with a value of its fields
-abbrev pub filled_text : FilledForm → List ℕ
-filled_text filled = form_text filled.form.mark filled.form.row filled.fields
-
--- the fields have values that the form allows
-abbrev pub FitsForm : FilledForm → Type 0
-FitsForm filled = filled.form.row.Fits filled.fields

@@ -1,7 +1,6 @@
--- The files in the order of reading. Line says what a line of a log tells, LineWords and LineText how
--- it is written, and which values it can have. Fields to LineReading say the same once more by a table
--- of forms, from which a line is also read. Words and Kept are for functions that read or write a part
--- of a line.
+-- The files in the order of reading. Line says what a line tells, LineWords and LineText how it is
+-- written. Fields to LineReading say the same by a table of forms, from which a line is also read.
+-- Words and Kept are for functions that read or write a part of a line.
 pub use Rattle.genome.specs.Genome
 pub use Rattle.mutations.specs.BirthRecord
 pub mod Line

@@ -1,7 +1,6 @@
--- The lines of a log as plain values (docs/FORMATS.md, "The log"). A log tells a run of a world:
--- who came into which cell in which update, and who died. For example, `B 7 3 12 45 - = p4k,d9` is
--- `Birth 7 3 12 45 None birth`: in update 12 organism 7 was born to organism 3, into the empty cell
--- 45. The record `birth` tells its genome: the parent's (`written` is None), with two `changes`.
+-- The lines of a log as plain values (docs/FORMATS.md, "The log"). For example, `B 7 3 12 45 - =
+-- p4k,d9` is `Birth 7 3 12 45 None birth`: in update 12 organism 7 was born to organism 3, into the
+-- empty cell 45. The record `birth` tells its genome: the parent's, with two `changes`.
 use Rattle.std.specs.Prelude.{⊤, ℕ, List, Option, Some}
 use Rattle.instruction_set.specs.declared.letter.Letter.{Letter}
 use Rattle.genome.specs.Genome.{letters}

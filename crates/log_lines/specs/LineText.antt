@@ -1,7 +1,6 @@
--- The text of a line and the values that it can have (docs/FORMATS.md, "The log"). The text is the
--- words, each but the first behind a space, and a newline. For example, `Rate 12 Copy 500` has the
--- text `R 12 copy_error 500` and a newline, and `Rate 12 Copy 2000000` has no form, since a rate is at
--- most a million parts per million.
+-- The text of a line and the values that it can have (docs/FORMATS.md, "The log"). For example,
+-- `Rate 12 Copy 500` has the text `R 12 copy_error 500` and a newline, and `Rate 12 Copy 2000000`
+-- has no form, since a rate is at most a million parts per million.
 use Prim.Native.Char.{code}
 use Rattle.std.specs.Prelude.{◌≡◌, ℕ, List, [], ◌∷◌, ◌++◌, length, IfSome}
 use Rattle.std.specs.List.{AllByRecursion}
@@ -45,14 +44,11 @@ line_text line = row_text line ++ code "\n" ∷ []
 abbrev pub IsLarge : ℕ → Type 0
 IsLarge n = IsWithin 0 18446744073709551615 n
 
--- the width or the height of a world, from 1 to 256
-abbrev pub IsSide : ℕ → Type 0
-IsSide n = IsWithin 1 greatest_side n
-
 -- the values of a line are ones that a log can have, so that its text is read as the line again
 abbrev pub HasForm : Line → Type 0
 HasForm (Start version width height cell genome) =
-    IsWithin 1 2 version × IsSide width × IsSide height × IsSmall cell × HasGenomeLength genome
+    IsWithin 1 2 version × IsWithin 1 greatest_side width × IsWithin 1 greatest_side height
+    × IsSmall cell × HasGenomeLength genome
 HasForm (Death id update cell) = IsLarge id × IsSmall update × IsSmall cell
 HasForm (Birth id parent update cell over birth) =
     IsLarge id × IsLarge parent × IsSmall update × IsSmall cell × IfSome over IsLarge

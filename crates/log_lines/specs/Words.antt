@@ -1,8 +1,6 @@
--- Reading word by word, from what is left of a line (docs/FORMATS.md, "The log"). What is left
--- behind a word is None at the end of the line, else the bytes behind the next space. For example,
--- behind the `7` of `7 12 45` it is `12 45`, whose words are `12` and `45`, and behind the `45` it
--- is None. Public functions cite the definitions up to `words_of`; the others are for the code's
--- own.
+-- Reading word by word, from what is left of a line (docs/FORMATS.md, "The log"): None at its end,
+-- else the bytes behind the next space. For example, behind the `7` of `7 12 45` it is `12 45`,
+-- with the words `12` and `45`. Public functions cite the definitions up to `words_of`.
 use Prim.Native.Char.{code}
 use Rattle.std.specs.Prelude.{ℕ, List, [], ◌∷◌, Option, Some, None, ◌==◌, if◌then◌else◌, option_and_then, option_map}
 use Rattle.std.specs.List.{slice_split}
@@ -23,8 +21,7 @@ pieces_of byte (Some rest) = slice_split (λ b. b == byte) rest
 abbrev pub words_of : Option (List ℕ) → List (List ℕ)
 words_of rest = pieces_of (code " ") rest
 
--- what is left behind a word, given the bytes that follow it: `Some None` at the end of the line,
--- and `None` where the word goes on, since another byte than a space follows
+-- what is left behind a word: `Some None` at the end of the line, `None` where the word goes on
 abbrev pub after_word : List ℕ → Option (Option (List ℕ))
 after_word [] = Some None
 after_word (b ∷ bs) = if b == code " " then Some (Some bs) else None
@@ -40,8 +37,7 @@ abbrev pub read_first :
 read_first read [] = None
 read_first read (word ∷ words) = option_map (λ a. (a, words)) (read word)
 
--- what is read from the first word and then from the words behind it, put together, and the words
--- left
+-- what is read from the first word and then from those behind it, put together, and the words left
 abbrev pub read_then :
     {A B C : Type 0} → (List ℕ → Option A) → (List (List ℕ) → Option (B × List (List ℕ)))
     → (A → B → C) → List (List ℕ) → Option (C × List (List ℕ))
@@ -49,42 +45,27 @@ read_then read others put words =
     option_and_then (λ (a, left). option_map (λ (b, behind). (put a b, behind)) (others left))
     (read_first read words)
 
--- where somebody came and who stood there, and the words behind these two
-abbrev pub read_place : List (List ℕ) → Option ((ℕ × Option ℕ) × List (List ℕ))
-read_place words =
-    read_then small.read (read_first over_field.read) (λ cell over. (cell, over)) words
-
 -- an arrival, that is the update, the cell and who stood there, and the words behind these three
 abbrev pub read_arrival : List (List ℕ) → Option (Arrival × List (List ℕ))
 read_arrival words =
-    read_then small.read read_place
+    read_then small.read
+    (read_then small.read (read_first over_field.read) (λ cell over. (cell, over)))
     (λ update (cell, over). record { update = update; cell = cell; over = over }) words
-
--- the parent and the arrival of a newborn, and the words behind these
-abbrev pub read_parent : List (List ℕ) → Option ((ℕ × Arrival) × List (List ℕ))
-read_parent words =
-    read_then large.read read_arrival (λ parent arrival. (parent, arrival)) words
 
 -- the fields of a birth before its record, and the words behind them
 abbrev pub read_newborn : List (List ℕ) → Option (Newborn × List (List ℕ))
 read_newborn words =
-    read_then large.read read_parent
+    read_then large.read
+    (read_then large.read read_arrival (λ parent arrival. (parent, arrival)))
     (λ id (parent, arrival). record { id = id; parent = parent; arrival = arrival }) words
-
--- the height of a world and its founder's cell, and the words behind them
-abbrev pub read_height : List (List ℕ) → Option ((ℕ × ℕ) × List (List ℕ))
-read_height words =
-    read_then side.read (read_first small.read) (λ height cell. (height, cell)) words
-
--- the width, the height and the founder's cell, and the words behind them
-abbrev pub read_width : List (List ℕ) → Option ((ℕ × (ℕ × ℕ)) × List (List ℕ))
-read_width words =
-    read_then side.read read_height (λ width behind. (width, behind)) words
 
 -- the fields of a first line before its genome, and the words behind them
 abbrev pub read_opening : List (List ℕ) → Option (Opening × List (List ℕ))
 read_opening words =
-    read_then (number 1 2).read read_width
+    read_then (number 1 2).read
+    (read_then side.read
+    (read_then side.read (read_first small.read) (λ height cell. (height, cell)))
+    (λ width behind. (width, behind)))
     (λ version (width, (height, cell)). record {
       version = version;
       width = width;

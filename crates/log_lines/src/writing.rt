@@ -3,7 +3,7 @@ ghost use Rattle.std.specs.Prelude.{◌≡◌, ◌++◌, ◌∷◌, [], Option, 
 ghost use Rattle.instruction_set.specs.Letter.{byte_of};
 ghost use Rattle.genome.specs.Genome as genome_spec;
 ghost use Rattle.mutations.specs.BirthRecord.{record_of, written_in};
-ghost use Rattle.log_lines.specs.Fields.{genome_field, list_text};
+ghost use Rattle.log_lines.specs.Fields.{genome_field, list_of};
 ghost use Rattle.log_lines.specs.Kinds.{base_field, change_field, changes_field, death_row, over_field, rate_name};
 ghost use Rattle.log_lines.specs.Line.{Birth, Count, End, Injected, Rate, Start, line_values};
 ghost use Rattle.log_lines.specs.LineWords.{change_text};
@@ -122,7 +122,7 @@ fn change(out: &mut Vec<u8>, before: u8, change: Change) -> Result<(), Memory>
 #[tactic(auto, using(crate::proofs::KeptLemmas::keeps_front))]
 fn changes(out: &mut Vec<u8>, changes: &Changes) -> Result<(), Memory>
     ensures ok { OnOk result (out.new.items ≡ out.old.items
-        ++ spaced_word (list_text change_field changes.now)) }
+        ++ spaced_word ((list_of change_field).text changes.now)) }
     ensures err { OnErr result (Keeps out.old.items out.new.items) }
 {
     if changes.len() == 0 {
