@@ -5,11 +5,11 @@ use Rattle.std.specs.BTreeMap.{insert_entry, is_at}
 use Rattle.std.specs.Map.{lookup, remove_entry, set_value}
 use Rattle.std.specs.Option.{option_map_or}
 use Rattle.std.proofs.lemmas.Bool.{cases_Bool, or_parts}
-use Rattle.lineage_log.specs.Nodes.{NodeValue, AreFamilies, AreFewer, AreNeededBut, AreNodes, IsSettled, id_order, is_needed, living_ids_of, node_at}
+use Rattle.lineage_log.specs.Nodes.{NodeValue, AreFamilies, AreNeededBut, AreNodes, IsSettled, id_order, is_needed, living_ids_of, node_at}
 use Rattle.lineage_log.proofs.NodeLemmas.{Rises, by_key, some_of}
 use Rattle.lineage_log.proofs.OrderLemmas.{insert_is_set, order_finds, order_gone, order_put, order_rises}
 use Rattle.lineage_log.proofs.LivingLemmas.{lives_there}
-use Rattle.lineage_log.proofs.TreeLemmas.{IsGone, fewer_again, fewer_gone, fewer_same, founder_goes, gone_is, is_there, lets_go, one_node, parent_counts, parent_stays, set_is}
+use Rattle.lineage_log.proofs.TreeLemmas.{IsGone, fewer_again, fewer_gone, fewer_same, founder_goes, gone_is, is_there, lets_go, one_node, parent_counts, parent_stays, set_is, AreFewer}
 use Rattle.lineage_log.proofs.KeptLemmas.{IsLaid, laid, parent_lower}
 
 -- where a node goes it doesn't matter what it was

@@ -11,11 +11,11 @@ use Rattle.std.proofs.lemmas.Grind.{common_steps}
 use Rattle.lineage_log.specs.Links.{Link}
 use Rattle.lineage_log.specs.Ancestry.{ancestor_ids_of, is_kept, kept_of, link_of, parent_of}
 use Rattle.lineage_log.specs.Trees.{IsPruned, genome_in_tree, tree_with_death, without_id}
-use Rattle.lineage_log.specs.Nodes.{NodeValue, AreFamilies, AreFewer, AreNeededBut, AreNodes, IsInFamily, children_of, links_of, living_ids_of, node_at, node_link, tree_of}
+use Rattle.lineage_log.specs.Nodes.{NodeValue, AreFamilies, AreNeededBut, AreNodes, IsInFamily, children_of, links_of, living_ids_of, node_at, node_link, tree_of}
 use Rattle.lineage_log.proofs.AncestorLemmas.{AreLeft, AreWanted, Older, kept_left, line_is, wanted_kept}
 use Rattle.lineage_log.proofs.NodeLemmas.{below_top, child_exists, is_some_link, link_there, node_told, parent_there, some_of, top_of}
 use Rattle.lineage_log.proofs.LivingLemmas.{links_set, lives_there, living_dead, there_lives}
-use Rattle.lineage_log.proofs.TreeLemmas.{fewer_same, found_new, is_there, set_is, still_there}
+use Rattle.lineage_log.proofs.TreeLemmas.{fewer_same, found_new, is_there, set_is, still_there, AreFewer}
 
 -- the link of an id among those whose id passes a test
 pub find_left : (left : ℕ → Bool) (id : ℕ) (links : List Link)

@@ -6,10 +6,9 @@ use Rattle.lineage_log.specs.declared.log_reader.LogReader.{LogReader}
 use Rattle.lineage_log.specs.Order.{LogPlace, Before, told, told_all}
 use Rattle.lineage_log.specs.LogGrammar.{log_of, with_line}
 use Rattle.lineage_log.specs.LogReading.{IsAtStart, TellsNext, left_of}
-use Rattle.lineage_log.specs.LogValues.{with_front}
 use Rattle.lineage_log.specs.Places.{place_of}
 use Rattle.lineage_log.proofs.LogLaws.{went_on, place_is}
-use Rattle.lineage_log.proofs.ReadLemmas.{front_none, front_more}
+use Rattle.lineage_log.proofs.ReadLemmas.{front_none, front_more, with_front}
 
 -- the lines that were given are before those that are left, and lead to this place
 pub record HasGiven (read : Result (List Line) LogStop) (place : LogPlace)

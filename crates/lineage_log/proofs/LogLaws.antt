@@ -14,7 +14,7 @@ use Rattle.lineage_log.specs.declared.log_stop.LogStop.{LogStop}
 use Rattle.lineage_log.specs.declared.reason.Reason.{Reason}
 use Rattle.lineage_log.specs.Reader.{Reader}
 use Rattle.lineage_log.specs.Order.{LogPlace, Before, After, told, and_on, told_all, IsWhole}
-use Rattle.lineage_log.specs.LogGrammar.{log_end, with_line, after_told, one_piece, pieces_log, log_of, lines_text, IsGoodLog}
+use Rattle.lineage_log.specs.LogGrammar.{last_piece, with_line, after_told, one_piece, pieces_log, log_of, lines_text, IsGoodLog}
 
 -- the pieces between newlines
 abbrev pub cut : List ℕ → List (List ℕ)
@@ -75,7 +75,8 @@ record IsRead (place : LogPlace) (pieces : List (List ℕ)) (lines : List Line) 
   whole : IsWhole (told_all place lines)
 
 -- so it is of what is read of the empty piece at the end
-end_read : (number : ℕ) (place : LogPlace) (lines : List Line) → log_end number place ≡ Ok lines
+end_read : (number : ℕ) (place : LogPlace) (lines : List Line)
+    → last_piece number place [] ≡ Ok lines
     → IsRead place ([] ∷ []) lines
 end_read number (After r) lines is = let e : [] ≡ lines = cc in
     rw (← e) (record { text = refl; fits = tt; whole = tt })

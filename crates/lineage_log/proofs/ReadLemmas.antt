@@ -14,10 +14,16 @@ use Rattle.lineage_log.specs.declared.log_stop.LogStop.TheVariants as wanting
 use Rattle.lineage_log.specs.Order.{LogPlace, told}
 use Rattle.lineage_log.specs.declared.log_reader.LogReader.{LogReader}
 use Rattle.lineage_log.specs.LogReading.{TellsPiece, left_of}
-use Rattle.lineage_log.specs.Places.{TellsPlace, place_of}
+use Rattle.lineage_log.specs.Places.{place_of}
+use Rattle.lineage_log.specs.Readings.{Tells}
 use Rattle.lineage_log.specs.LogGrammar.{stop_at, with_line, one_piece, pieces_log, log_of, lines_text, Reads, IsGoodLog}
-use Rattle.lineage_log.specs.LogValues.{stop_of, with_front}
+use Rattle.lineage_log.specs.LogValues.{stop_of}
 use Rattle.lineage_log.proofs.LogLaws.{cut}
+
+-- lines before those that are read
+abbrev pub with_front : List Line → Result (List Line) LogStop → Result (List Line) LogStop
+with_front front (Ok lines) = Ok (front ++ lines)
+with_front front (Err e) = Err e
 
 -- no lines in front of what is read leave it as it is
 pub front_none : (r : Result (List Line) LogStop) → with_front [] r ≡ r
@@ -99,7 +105,7 @@ good_read law bytes lines is = ((law bytes lines).0 is).1
 -- the answer for a line that was not taken
 pub refused : (refusal : Refusal) (number : ℕ) (stop : LogStop) (next : LogPlace)
     (t : Result LogPlace Reason) (read : Result (List Line) LogStop) → stop ≡ stop_of number refusal
-    → (stop ≢ wanting.Memory) → TellsPlace (Err refusal) next t
+    → (stop ≢ wanting.Memory) → Tells {A = Unit {0}} (λ done. next) (Err refusal) t
     → ((reason : Reason) → t ≡ Err reason
     → read ≡ Err (stop_at number reason)) → read ≡ Err stop
 refused Memory number stop next t read is other told faulty = absurd (other is)

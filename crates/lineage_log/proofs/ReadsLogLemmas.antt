@@ -15,10 +15,9 @@ use Rattle.lineage_log.specs.declared.reason.Reason.{Reason}
 use Rattle.lineage_log.specs.declared.reason.Reason.TheVariants as reason
 use Rattle.lineage_log.specs.Order.{LogPlace, Before, Within, After, IsWhole, told, told_all}
 use Rattle.lineage_log.specs.LogGrammar.{log_of, pieces_log, with_line}
-use Rattle.lineage_log.specs.LogValues.{with_front}
 use Rattle.lineage_log.specs.ReadsLog.{BeginsWith, IsFaulty, ReadsLog, lines_text, stop_at}
 use Rattle.lineage_log.proofs.LogLaws.{cut, cut_some, place_is, read_back, went_on}
-use Rattle.lineage_log.proofs.ReadLemmas.{bad_line, bad_order, front_none, good_line}
+use Rattle.lineage_log.proofs.ReadLemmas.{bad_line, bad_order, front_none, good_line, with_front}
 
 -- the bytes have a newline, with the first piece before it
 record HasPiece (bytes : List ℕ) : Type 0 where

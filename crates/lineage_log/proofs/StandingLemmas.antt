@@ -1,12 +1,11 @@
 -- Who stands in the cells stands there alone, is kept, and is none of those who died.
 use Rattle.std.proofs.Common.{◌≡◌, ℕ, zero, suc, ◌<◌, List, [], ◌∷◌, ◌++◌, Option, Some, None, length, refl, sym, ap, ◌∙◌, arith, inl, inr}
-use Rattle.std.specs.Prelude.{◌≢◌, ◌⊎◌, replicate, slice_get, slice_set}
+use Rattle.std.specs.Prelude.{◌≢◌, ◌⊎◌, replicate, slice_get, slice_set, fold}
 use Rattle.std.specs.List.{AllByRecursion}
 use Rattle.std.specs.Option.{option_to_list}
 use Rattle.std.proofs.lemmas.List.{length-append, length-set}
 use Rattle.std.proofs.lemmas.Option.{slice_get_within}
 use Rattle.instruction_set.specs.declared.letter.Letter.{Letter}
-use Rattle.lineage_log.specs.People.{without}
 
 -- ---- lists
 
@@ -86,6 +85,10 @@ all_else P Q gives (x ∷ xs) all = (gives x all.0, all_else P Q gives xs all.1)
 -- by id the genomes of who is kept
 abbrev pub People : Type 0
 People = List (Option (List Letter))
+
+-- the people without these ids
+abbrev pub without : List ℕ → People → People
+without ids people = fold (λ people id. slice_set people id None) people ids
 
 -- the people without some ids have as many places
 pub length_without : (ids : List ℕ) (people : People) → length (without ids people) ≡ length people

@@ -11,7 +11,7 @@ use Rattle.std.proofs.lemmas.Map.{lookup-remove_entry, lookup-set_value, keys-se
 use Rattle.std.proofs.lemmas.Map.Entries.{sum_by-remove_entry, sum_by-set_value}
 use Rattle.std.proofs.lemmas.Map.Keys.{IsDistinct-from_sorted}
 use Rattle.lineage_log.specs.Links.{Link}
-use Rattle.lineage_log.specs.Nodes.{NodeValue, AreFamilies, AreFewer, AreNeededBut, IsInFamily, as_child, children_of, links_of, living_ids_of, node_at}
+use Rattle.lineage_log.specs.Nodes.{NodeValue, AreFamilies, AreNeededBut, IsInFamily, as_child, children_of, links_of, living_ids_of, node_at}
 use Rattle.lineage_log.proofs.NodeLemmas.{Rises, by_key, child_apart, child_counts, child_is, founder_is, one_for, some_of}
 use Rattle.lineage_log.proofs.LivingLemmas.{links_gone, links_set, living_gone, living_set}
 
@@ -236,6 +236,12 @@ module _ (before mid : List (ℕ × NodeValue)) (id : ℕ) (old : NodeValue)
       )
 
 -- ---- fewer nodes
+
+-- some nodes were removed, none of which lived: those that are left have the links that they had
+pub record AreFewer (before after : List (ℕ × NodeValue)) : Type 0 where
+  pub left : ℕ → Bool
+  pub links : links_of after ≡ filter (λ (link : Link). left link.id) (links_of before)
+  pub living : living_ids_of after ≡ living_ids_of before
 
 -- none fewer
 pub fewer_same : (nodes : List (ℕ × NodeValue)) → AreFewer nodes nodes

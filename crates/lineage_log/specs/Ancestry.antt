@@ -23,8 +23,7 @@ ancestors_within zero parent_of id = id ∷ []
 ancestors_within (suc generations) parent_of id =
     id ∷ option_map_or (ancestors_within generations parent_of) (parent_of id) []
 
--- an id, its parent, and so on to a founder; a parent's id is lower than its child's, so there are
--- at most `id` generations
+-- an id, its parent, and so on to a founder: parents have lower ids, so at most `id` generations
 abbrev pub ancestor_ids_of : List Link → ℕ → List ℕ
 ancestor_ids_of links id = ancestors_within id (parent_of links) id
 

@@ -4,7 +4,6 @@ pub use Rattle.log_lines.specs.Line
 pub use Rattle.log_lines.specs.LineText
 pub use Rattle.log_lines.specs.LineReading
 pub mod Slots
-pub mod People
 pub mod Reader
 pub mod Order
 pub mod Readings

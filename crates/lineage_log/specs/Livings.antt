@@ -13,14 +13,9 @@ abbrev pub living_residents_of : Result (List Line) LogStop → Result (List Res
 living_residents_of (Ok lines) = Ok (replay_of lines)
 living_residents_of (Err e) = Err e
 
--- these lines were read, and all of them were told to this reader
-pub record HasTold (lines : List Line) (reader : code.Reader)
-    (read : Result (List Line) LogStop) : Type 0 where
-  pub read_so : read ≡ Ok lines
-  pub told : told_all Before lines ≡ Ok (After (reader_of reader))
-
--- the reader that is left by the bytes of a log, or why they are none; running out of memory says
--- nothing of them
+-- the reader that a log leaves, or why the bytes are none; running out of memory says nothing
 abbrev pub LeavesReader : Result code.Reader LogStop → Result (List Line) LogStop → Type 0
-LeavesReader (Ok reader) read = (lines : List Line) × HasTold lines reader read
+LeavesReader (Ok reader) read =
+    (lines : List Line) × (read ≡ Ok lines)
+    × (told_all Before lines ≡ Ok (After (reader_of reader)))
 LeavesReader (Err e) read = e ≢ stop.Memory → read ≡ Err e

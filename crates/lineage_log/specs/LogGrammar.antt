@@ -10,15 +10,11 @@ use Rattle.lineage_log.specs.declared.reason.Reason.{Reason}
 use Rattle.lineage_log.specs.Order.{LogPlace, Before, After, told}
 pub use Rattle.lineage_log.specs.ReadsLog.{lines_text, stop_at, IsGoodLog}
 
--- the end of the bytes, behind the last newline
-abbrev pub log_end : ℕ → LogPlace → Result (List Line) LogStop
-log_end number (After r) = Ok []
-log_end number _ = Err (stop.Unended number)
-
 -- the last piece, which has no newline
 abbrev pub last_piece : ℕ → LogPlace → List ℕ → Result (List Line) LogStop
-last_piece number place [] = log_end number place
 last_piece number place (b ∷ bs) = Err (stop.BadLine number)
+last_piece number (After r) [] = Ok []
+last_piece number _ [] = Err (stop.Unended number)
 
 -- the line before those that are read
 abbrev pub with_line : Line → Result (List Line) LogStop → Result (List Line) LogStop

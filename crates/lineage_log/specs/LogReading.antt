@@ -8,9 +8,9 @@ use Rattle.lineage_log.specs.declared.log_stop.LogStop.TheVariants as stop
 use Rattle.lineage_log.specs.declared.log_reader.LogReader.{LogReader}
 use Rattle.lineage_log.specs.declared.refusal.Refusal.{Refusal}
 use Rattle.lineage_log.specs.declared.refusal.Refusal.TheVariants.{Memory, Faulty}
-use Rattle.lineage_log.specs.Order.{LogPlace, Before, told}
+use Rattle.lineage_log.specs.Order.{LogPlace, Before, told, IsWhole}
 use Rattle.lineage_log.specs.LogGrammar.{pieces_log, with_line}
-use Rattle.lineage_log.specs.Places.{IsAfter, place_of}
+use Rattle.lineage_log.specs.Places.{place_of}
 
 -- what the rest of a log gives
 abbrev pub left_of : LogReader → Result (List Line) LogStop
@@ -34,17 +34,15 @@ pub record ReadsLine (line : Line) (before after : LogReader) : Type 0 where
 pub record IsRead (before after : LogReader) : Type 0 where
   pub left : left_of before ≡ Ok []
   pub place : place_of after.place ≡ place_of before.place
-  pub whole : IsAfter (place_of after.place)
+  pub whole : IsWhole (Ok (place_of after.place))
 
--- what the next line gives: the line, the end, or why the first faulty line is; running out of
--- memory says nothing of it
+-- what the next line gives: the line, the end, or the fault; running out of memory says nothing
 abbrev pub GivesNext : Result (Option LogLine) LogStop → LogReader → LogReader → Type 0
 GivesNext (Ok (Some line)) before after = ReadsLine (line_values line) before after
 GivesNext (Ok None) before after = IsRead before after
 GivesNext (Err e) before after = e ≢ stop.Memory → left_of before ≡ Err e
 
--- what a piece did: its line is told, and this place is reached; or it is no line; or why its line
--- is faulty; running out of memory says nothing of it
+-- a piece leads to this place, is no line, or why it is faulty; running out of memory says nothing
 abbrev pub TellsPiece : Result Bool Refusal → Option Line → LogPlace → LogPlace → Type 0
 TellsPiece (Ok true) piece before after =
     (line : Line) × (piece ≡ Some line) × (told before line ≡ Ok after)
@@ -53,8 +51,7 @@ TellsPiece (Err Memory) piece _ _ = ⊤
 TellsPiece (Err (Faulty reason)) piece before after =
     (line : Line) × (piece ≡ Some line) × (told before line ≡ Err reason)
 
--- what the next line does: it is told, or the log has its end, or why the first faulty line is;
--- running out of memory says nothing of it
+-- what the next line does: it is told, the end, or the fault; running out of memory says nothing
 abbrev pub TellsNext : Result Bool LogStop → LogReader → LogReader → Type 0
 TellsNext (Ok true) before after = (line : Line) × ReadsLine line before after
 TellsNext (Ok false) before after = IsRead before after
@@ -62,5 +59,5 @@ TellsNext (Err e) before after = e ≢ stop.Memory → left_of before ≡ Err e
 
 -- the bytes end here: a whole log ends, or why it doesn't
 abbrev pub EndsAt : Result (Unit {0}) LogStop → LogPlace → Result (List Line) LogStop → Type 0
-EndsAt (Ok done) place left = (left ≡ Ok []) × IsAfter place
+EndsAt (Ok done) place left = (left ≡ Ok []) × IsWhole (Ok place)
 EndsAt (Err e) place left = left ≡ Err e

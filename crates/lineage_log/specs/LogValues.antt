@@ -1,5 +1,5 @@
 -- What the reader of a log answers, as the definitions see it.
-use Rattle.std.specs.Prelude.{◌≡◌, ◌≢◌, ℕ, List, ◌++◌, map, Result, Ok, Err, Vec}
+use Rattle.std.specs.Prelude.{◌≡◌, ◌≢◌, ℕ, List, map, Result, Ok, Err, Vec}
 use Rattle.std.proofs.Common.{Global}
 use Rattle.log_lines.specs.Line.{Line, line_values}
 use Rattle.log_lines.specs.declared.log_line.LogLine.{LogLine}
@@ -22,8 +22,3 @@ stop_of line (Faulty reason) = stop_at line reason
 abbrev pub Gives : Result (Vec LogLine Global) LogStop → Result (List Line) LogStop → Type 0
 Gives (Ok lines) read = read ≡ Ok (lines_of lines.items)
 Gives (Err e) read = e ≢ stop.Memory → read ≡ Err e
-
--- lines before those that are read
-abbrev pub with_front : List Line → Result (List Line) LogStop → Result (List Line) LogStop
-with_front front (Ok lines) = Ok (front ++ lines)
-with_front front (Err e) = Err e

@@ -89,15 +89,7 @@ pub record AreNodes (nodes : List (ℕ × NodeValue)) : Type 0 where
   pub families : AreFamilies nodes
   pub needed : AreNeededBut None nodes
 
--- after some nodes were removed, none of which lived: those that are left have the links that they
--- had
-pub record AreFewer (before after : List (ℕ × NodeValue)) : Type 0 where
-  pub left : ℕ → Bool
-  pub links : links_of after ≡ filter (λ (link : Link). left link.id) (links_of before)
-  pub living : living_ids_of after ≡ living_ids_of before
-
--- after one node was changed: it stays where it is needed then, and else it goes and its parent
--- is the next one
+-- one node was changed: it stays where it is needed, and else it goes and its parent is next
 pub record IsSettled (before after : List (ℕ × NodeValue)) (id : ℕ) (node : NodeValue)
     (next : Option ℕ) : Type 0 where
   pub found : (other : ℕ) → lookup (nat_eq other) after

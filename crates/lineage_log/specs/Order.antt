@@ -1,5 +1,5 @@
 -- The order of the lines of a log (docs/FORMATS.md, "The log").
-use Rattle.std.specs.Prelude.{ℕ, ◌+◌, ◌*◌, List, [], ◌∷◌, length, replicate, Option, Some, None, Result, Ok, Err, Bool, nat_lt, ◌==◌, ◌&&◌, if◌then◌else◌, slice_get, slice_set}
+use Rattle.std.specs.Prelude.{ℕ, ◌+◌, ◌*◌, List, [], ◌∷◌, length, replicate, Option, Some, None, Result, Ok, Err, Bool, nat_lt, ◌==◌, ◌&&◌, if◌then◌else◌, slice_get, slice_set, fold}
 use Rattle.instruction_set.specs.declared.letter.Letter.{Letter}
 use Rattle.mutations.specs.BirthRecord.{BirthRecord, child_of}
 use Rattle.mutations.specs.declared.stop.ApplyStop.{ApplyStop}
@@ -8,7 +8,6 @@ use Rattle.log_lines.specs.Line.{Line, Start, Death, Birth, Injected, Cleared, R
 use Rattle.lineage_log.specs.declared.reason.Reason.{Reason}
 use Rattle.lineage_log.specs.declared.reason.Reason.TheVariants.{BadOrder, UnknownParent, BadChange}
 use Rattle.lineage_log.specs.declared.stage.Stage.TheVariants.{Quiet, Dying, Placing, Happening}
-use Rattle.lineage_log.specs.People.{without}
 use Rattle.lineage_log.specs.Slots.{holds, taken}
 use Rattle.lineage_log.specs.Reader.{Reader, may_die, may_be_born, is_quiet, parent_in, reader_with_newcomer, reader_with_death}
 
@@ -94,7 +93,7 @@ abbrev pub at_next_update : Reader → Reader
 at_next_update r = record r {
   due = r.due + 1;
   stage = Quiet;
-  people = without r.leaving r.people;
+  people = fold (λ people id. slice_set people id None) r.people r.leaving;
   newest = length r.people;
   leaving = [];
   births = 0;

@@ -5,8 +5,7 @@ use Rattle.instruction_set.specs.declared.letter.Letter.{Letter}
 use Rattle.lineage_log.specs.declared.stage.Stage.{Stage}
 use Rattle.lineage_log.specs.declared.stage.Stage.TheVariants.{Quiet, Dying, Happening}
 
--- the version, the update that is due, who stands in each cell, and by id the genome of each who
--- lives or died in this update; the next id as the update began, who died in it, and its births
+-- `people` has by id the genomes of the living and the update's dead, `newest` its first new id
 pub record Reader : Type 0 where
   pub version : ℕ
   pub due : ℕ

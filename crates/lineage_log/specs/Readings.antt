@@ -5,7 +5,7 @@ use Rattle.lineage_log.specs.declared.refusal.Refusal.{Refusal}
 use Rattle.lineage_log.specs.declared.refusal.Refusal.TheVariants.{Memory, Faulty}
 use Rattle.lineage_log.specs.declared.reader.Reader as code
 use Rattle.lineage_log.specs.Reader.{Reader}
-use Rattle.lineage_log.specs.Order.{LogPlace, Within}
+use Rattle.lineage_log.specs.Order.{LogPlace}
 
 -- the state of a reader
 abbrev pub reader_of : code.Reader → Reader
@@ -20,15 +20,9 @@ reader_of r = record {
   births = r.births;
 }
 
--- what a line did: this reader is left, or why the line is faulty; running out of memory says
--- nothing of it
-abbrev pub Tells : Result (Unit {0}) Refusal → Reader → Result LogPlace Reason → Type 0
-Tells (Ok done) r told = told ≡ Ok (Within r)
-Tells (Err Memory) r told = ⊤
-Tells (Err (Faulty reason)) r told = told ≡ Err reason
-
--- what the first line did
-abbrev pub TellsReader : Result code.Reader Refusal → Result LogPlace Reason → Type 0
-TellsReader (Ok r) told = told ≡ Ok (Within (reader_of r))
-TellsReader (Err Memory) told = ⊤
-TellsReader (Err (Faulty reason)) told = told ≡ Err reason
+-- a line leads to this place, or why it is faulty; running out of memory says nothing of it
+abbrev pub Tells :
+    {A : Type 0} → (A → LogPlace) → Result A Refusal → Result LogPlace Reason → Type 0
+Tells place (Ok a) told = told ≡ Ok (place a)
+Tells place (Err Memory) told = ⊤
+Tells place (Err (Faulty reason)) told = told ≡ Err reason

@@ -1,7 +1,6 @@
--- What the bytes of a log are read as (docs/FORMATS.md, "The log"). They are read as lines where they
--- are the text of a good log. Else they begin with good lines, and what is left behind these tells
--- the fault. For example, behind a first line `E 5` and a newline are out of order in line 2, since no
--- update has its end yet, and `E 0` without a newline is a bad line.
+-- What the bytes of a log are read as (docs/FORMATS.md, "The log"): the lines of a good log, or the
+-- fault behind good lines. For example, behind a first line `E 5` and a newline are out of order in
+-- line 2, since no update has its end yet, and `E 0` without a newline is a bad line.
 use Rattle.std.specs.Prelude.{◌≡◌, ◌≢◌, ◌+◌, ℕ, List, [], ◌++◌, flat_map, length, Result, Ok, Err}
 use Rattle.std.specs.List.{AllByRecursion}
 use Rattle.log_lines.specs.Line.{Line}

@@ -31,8 +31,7 @@ tree_with_newcomer t link =
 abbrev pub without_id : ℕ → List ℕ → List ℕ
 without_id id ids = filter (λ other. not (other == id)) ids
 
--- an organism dies: of the links those are left whose organism lives or is an ancestor of one that
--- does
+-- an organism dies: the links of the living and of their ancestors are left
 abbrev pub tree_with_death : TreeValue → ℕ → TreeValue
 tree_with_death t id =
     record { links = kept_of t.links (without_id id t.living); living = without_id id t.living }

@@ -1,7 +1,8 @@
 // Reads the lines of a log one after another.
 ghost use Rattle.std.specs.Prelude.{◌≡◌, ◌<◌};
 ghost use Rattle.lineage_log.specs.LogGrammar.{last_piece};
-ghost use Rattle.lineage_log.specs.Places.{TellsPlace, place_of};
+ghost use Rattle.lineage_log.specs.Places.{place_of};
+ghost use Rattle.lineage_log.specs.Readings.{Tells};
 ghost use Rattle.lineage_log.specs.LogValues.{stop_of};
 ghost use Rattle.lineage_log.specs.LogReading.{EndsAt, GivesNext, IsAtStart, TellsNext, TellsPiece};
 ghost use Rattle.lineage_log.specs.Order.{told};
@@ -91,7 +92,7 @@ pub fn next_line(alloc: Global, reader: &mut LogReader<'_>) -> Result<Option<Log
 
 /// A birth more. After an error the place is not used again.
 fn tell_birth(alloc: Global, place: &mut LogPlace, birth: &Birth) -> Result<(), Refusal>
-    ensures { TellsPlace result (place_of place.new)
+    ensures { Tells (λ done. place_of place.new) result
         (told (place_of place.old) (birth_values birth.now)) }
 {
     match place {

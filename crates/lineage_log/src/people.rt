@@ -1,7 +1,6 @@
 // The genomes of those who live, and of those who died in this update.
-ghost use Rattle.std.specs.Prelude.{◌≡◌, ◌<◌, ◌^◌, ◌++◌, ◌∷◌, [], None, Some, IfOk, OnErr, OnOk, length, slice_get, slice_set, option_and_then, option_map};
+ghost use Rattle.std.specs.Prelude.{◌≡◌, ◌<◌, ◌^◌, ◌++◌, ◌∷◌, [], None, Some, IfOk, OnErr, OnOk, length, slice_get, slice_set, option_and_then, option_map, fold};
 ghost use Rattle.genome.specs.Genome.{letters};
-ghost use Rattle.lineage_log.specs.People.{without};
 
 use avida_port::Memory;
 use genome::Genome;
@@ -85,7 +84,7 @@ impl People {
     /// The boxes of those who were forgotten before go, so that no more are kept than the dead of
     /// one update had.
     pub fn forget_all(&mut self, ids: &[u64])
-        ensures { self.new ≡ without ids.now self.old }
+        ensures { self.new ≡ fold (λ people id. slice_set people id None) self.old ids.now }
     {
         self.boxes.clear();
         for id in ids {

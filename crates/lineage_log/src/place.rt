@@ -1,9 +1,9 @@
 // Where a log stands between two lines.
-ghost use Rattle.std.specs.Prelude.{◌≡◌};
+ghost use Rattle.std.specs.Prelude.{◌≡◌, Ok};
 ghost use Rattle.log_lines.specs.Line.{End, line_values};
-ghost use Rattle.lineage_log.specs.Order.{After, Before, told};
-ghost use Rattle.lineage_log.specs.Readings.{TellsReader, reader_of};
-ghost use Rattle.lineage_log.specs.Places.{IsAfter, TellsPlace, place_of};
+ghost use Rattle.lineage_log.specs.Order.{After, Before, IsWhole, Within, told};
+ghost use Rattle.lineage_log.specs.Readings.{Tells, reader_of};
+ghost use Rattle.lineage_log.specs.Places.{place_of};
 
 use crate::reader::Reader;
 use crate::refusal::{OUT_OF_ORDER, Refusal};
@@ -23,7 +23,7 @@ pub enum LogPlace {
 
 /// One line more. After an error the place is not used again.
 pub fn tell(alloc: Global, place: &mut LogPlace, line: &LogLine) -> Result<(), Refusal>
-    ensures { TellsPlace result (place_of place.new)
+    ensures { Tells (λ done. place_of place.new) result
         (told (place_of place.old) (line_values line.now)) }
 {
     if let LogLine::End { updates } = line {
@@ -40,7 +40,8 @@ pub fn tell(alloc: Global, place: &mut LogPlace, line: &LogLine) -> Result<(), R
 }
 
 fn tell_first(alloc: Global, line: &LogLine) -> Result<Reader, Refusal>
-    ensures { TellsReader result (told Before (line_values line.now)) }
+    ensures { Tells (λ reader. Within (reader_of reader)) result
+        (told Before (line_values line.now)) }
 {
     match line {
         LogLine::Start {
@@ -55,7 +56,7 @@ fn tell_first(alloc: Global, line: &LogLine) -> Result<Reader, Refusal>
 }
 
 fn tell_last(place: &mut LogPlace, updates: u32) -> Result<(), Refusal>
-    ensures { TellsPlace result (place_of place.new) (told (place_of place.old) (End updates)) }
+    ensures { Tells (λ done. place_of place.new) result (told (place_of place.old) (End updates)) }
 {
     match mem::replace(place, LogPlace::Before) {
         LogPlace::Within(reader) => {
@@ -72,7 +73,7 @@ fn tell_last(place: &mut LogPlace, updates: u32) -> Result<(), Refusal>
 
 /// The reader behind the last line.
 pub fn into_reader(place: LogPlace) -> Reader
-    requires { IsAfter (place_of place) }
+    requires { IsWhole (Ok (place_of place)) }
     ensures { place_of place ≡ After (reader_of result) }
 {
     match place {

@@ -64,7 +64,7 @@ fn is_quiet(stage: Stage) -> bool
 }
 
 impl Reader {
-    ghost use Rattle.lineage_log.specs.Readings.{Tells, TellsReader, reader_of};
+    ghost use Rattle.lineage_log.specs.Readings.{Tells, reader_of};
     ghost use Rattle.lineage_log.specs.Children.{MakesChild};
 
     /// The reader after the first line.
@@ -77,7 +77,8 @@ impl Reader {
         cell: u32,
         genome: &Genome,
     ) -> Result<Reader, Refusal>
-        ensures { TellsReader result (told_start version width height cell (letters genome.now)) }
+        ensures { Tells (λ reader. Within (reader_of reader)) result
+            (told_start version width height cell (letters genome.now)) }
     {
         let cells = u64::from(width) * u64::from(height);
         if u64::from(cell) >= cells {
@@ -153,7 +154,7 @@ impl Reader {
 
     #[tactic(auto, unfolding(crate::specs::Order::told_death))]
     pub fn death(&mut self, id: u64, update: u32, cell: u32) -> Result<(), Refusal>
-        ensures { Tells result (reader_of self.new)
+        ensures { Tells (λ done. Within (reader_of self.new)) result
             (told_death (reader_of self.old) id update cell) }
     {
         if u64::from(update) == self.due
@@ -169,7 +170,7 @@ impl Reader {
 
     #[tactic(auto, unfolding(crate::specs::Order::told_cleared))]
     pub fn cleared(&mut self, id: u64, update: u32, cell: u32) -> Result<(), Refusal>
-        ensures { Tells result (reader_of self.new)
+        ensures { Tells (λ done. Within (reader_of self.new)) result
             (told_cleared (reader_of self.old) id update cell) }
     {
         if self.may_happen(update) && self.standing.holds(cell, Some(id)) {
@@ -182,7 +183,8 @@ impl Reader {
 
     #[tactic(auto, unfolding(crate::specs::Order::told_rate))]
     pub fn rate(&mut self, update: u32) -> Result<(), Refusal>
-        ensures { Tells result (reader_of self.new) (told_rate (reader_of self.old) update) }
+        ensures { Tells (λ done. Within (reader_of self.new)) result
+            (told_rate (reader_of self.old) update) }
     {
         if self.may_happen(update) {
             self.stage = Stage::Happening;
@@ -235,7 +237,7 @@ impl Reader {
         over: Option<u64>,
         origin: &Origin,
     ) -> Result<(), Refusal>
-        ensures { Tells result (reader_of self.new)
+        ensures { Tells (λ done. Within (reader_of self.new)) result
             (told_birth (reader_of self.old) id parent update cell over (record_of origin.now)) }
     {
         if u64::from(update) == self.due
@@ -261,7 +263,7 @@ impl Reader {
         over: Option<u64>,
         genome: &Genome,
     ) -> Result<(), Refusal>
-        ensures { Tells result (reader_of self.new)
+        ensures { Tells (λ done. Within (reader_of self.new)) result
             (told_injected (reader_of self.old) id update cell over (letters genome.now)) }
     {
         if self.may_happen(update) && self.may_come(id, cell, over) {
@@ -302,7 +304,8 @@ impl Reader {
 
     #[tactic(auto, unfolding(crate::specs::Order::told_count))]
     pub fn count(&mut self, stats: &Stats) -> Result<(), Refusal>
-        ensures { Tells result (reader_of self.new) (told_count (reader_of self.old) stats.now) }
+        ensures { Tells (λ done. Within (reader_of self.new)) result
+            (told_count (reader_of self.old) stats.now) }
     {
         if self.counts_fit(stats) {
             self.renew();
@@ -323,7 +326,7 @@ impl Reader {
     /// One line more that is not the last line.
     pub fn tell(&mut self, alloc: Global, line: &LogLine) -> Result<(), Refusal>
         requires { (updates : ℕ) → line_values line.now ≢ End updates }
-        ensures { Tells result (reader_of self.new)
+        ensures { Tells (λ done. Within (reader_of self.new)) result
             (told (Within (reader_of self.old)) (line_values line.now)) }
     {
         match line {

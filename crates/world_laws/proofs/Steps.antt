@@ -11,7 +11,7 @@ use Rattle.log_lines.specs.Line.{Death, Birth, Injected, Cleared, Rate}
 use Rattle.lineage_log.specs.declared.reason.Reason.{Reason}
 use Rattle.lineage_log.specs.declared.stage.Stage.{Stage}
 use Rattle.lineage_log.specs.declared.stage.Stage.TheVariants.{Dying, Placing, Happening}
-use Rattle.lineage_log.specs.Slots.{same_slot, holds}
+use Rattle.lineage_log.specs.Slots.{holds}
 use Rattle.lineage_log.specs.Order.{LogPlace, Within, told_death, told_birth, told_injected, told_cleared, told_rate}
 use Rattle.lineage_log.specs.Reader.{Reader, may_die, may_be_born, parent_in}
 use Rattle.lineage_log.specs.Reader as reader
@@ -28,7 +28,7 @@ abbrev on : Reader → Result LogPlace Reason
 on r = Ok (Within r)
 
 -- a slot is the same as itself
-same_self : (slot : Option ℕ) → same_slot slot slot ≡ true
+same_self : (slot : Option ℕ) → holds (Some slot) slot ≡ true
 same_self None = refl
 same_self (Some id) = eqb_same id
 

@@ -11,7 +11,7 @@ use Rattle.lineage_log.specs.declared.stage.Stage.{Stage}
 use Rattle.lineage_log.specs.declared.stage.Stage.TheVariants.{Quiet}
 use Rattle.lineage_log.specs.Slots.{taken}
 use Rattle.lineage_log.specs.Order.{Within, told_count, at_next_update}
-use Rattle.lineage_log.specs.People.{without}
+use Rattle.lineage_log.proofs.StandingLemmas.{without}
 use Rattle.lineage_log.specs.Reader.{may_be_born}
 use Rattle.lineage_log.specs.Links.{Link}
 use Rattle.lineage_log.proofs.StandingLemmas.{get_other}

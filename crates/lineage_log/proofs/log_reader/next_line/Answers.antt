@@ -4,7 +4,8 @@ use Rattle.log_lines.specs.Line.{line_values}
 use Rattle.log_lines.specs.LineReading.{line_of}
 use Rattle.lineage_log.specs.Order.{told}
 use Rattle.lineage_log.specs.LogReading.{left_of}
-use Rattle.lineage_log.specs.Places.{TellsPlace, place_of}
+use Rattle.lineage_log.specs.Places.{place_of}
+use Rattle.lineage_log.specs.Readings.{Tells}
 use Rattle.lineage_log.specs.declared.refusal.Refusal.{Refusal}
 use Rattle.lineage_log.proofs.ReadLemmas.{next_piece, bad_line, bad_order, good_line, refused}
 use Rattle.lineage_log.proofs.log_reader.next_line.Goals.{After-tell}
@@ -28,8 +29,8 @@ returns-in-Err c =
     let at = place_of c.args.reader.now.place in
     let next = place_of c.tell.new.place in
     let one = line_values c.in-Some-2.line in
-    let bad = subst (λ (t : Result (Unit {0}) Refusal). TellsPlace t next (told at one)) c.in-Err.is
-    c.tell.ensures in
+    let bad = subst (λ (t : Result (Unit {0}) Refusal). Tells (λ done. next) t (told at one))
+    c.in-Err.is c.tell.ensures in
     λ other. refused c.in-Err.refusal n c.stop_for.result next (told at one)
     (left_of c.args.reader.now) c.stop_for.ensures other bad
     (λ reason faulty. next_piece c.args.reader.now _ _ c.in-Some.behind c.split_at.ensures.pieces
@@ -43,7 +44,7 @@ returns c =
     let at = place_of c.args.reader.now.place in
     let next = place_of c.tell.new.place in
     let one = line_values c.in-Some-2.line in
-    let good = subst (λ (t : Result (Unit {0}) Refusal). TellsPlace t next (told at one))
+    let good = subst (λ (t : Result (Unit {0}) Refusal). Tells (λ done. next) t (told at one))
     c.in_default-tell.is c.tell.ensures in
     record {
       left = next_piece c.args.reader.now _ _ c.in-Some.behind c.split_at.ensures.pieces

@@ -1,8 +1,9 @@
 use Rattle.std.proofs.Common.{◌≡◌, length}
 use Rattle.lineage_log.specs.LogGrammar.{log_of}
 use Rattle.lineage_log.specs.LogReading.{left_of}
-use Rattle.lineage_log.specs.LogValues.{lines_of, with_front}
+use Rattle.lineage_log.specs.LogValues.{lines_of}
 use Rattle.lineage_log.proofs.read.read_lines.Given as goal
+use Rattle.lineage_log.proofs.ReadLemmas.{with_front}
 
 abbrev pub invariant-loop-reader : goal.invariant-loop-reader
 invariant-loop-reader l = with_front (lines_of l.lines.items) (left_of l.reader) ≡ log_of l.fn.bytes

@@ -1,7 +1,6 @@
 use Rattle.std.proofs.Common.{◌∙◌, ℕ, List, Ok, sym, ap}
-use Rattle.log_lines.specs.Line.{Line}
 use Rattle.lineage_log.specs.declared.reader.Reader as code
-use Rattle.lineage_log.specs.Livings.{HasTold, living_residents_of}
+use Rattle.lineage_log.specs.Livings.{LeavesReader, living_residents_of}
 use Rattle.lineage_log.specs.LogGrammar.{log_of}
 use Rattle.lineage_log.specs.Readings.{reader_of}
 use Rattle.lineage_log.specs.Replay.{Resident}
@@ -11,10 +10,10 @@ use Rattle.lineage_log.proofs.residents.living_at_end.Goals as goal
 
 -- what the lines that were read leave in the reader that they were told to
 left : ReadsExactly → (bytes : List ℕ) (reader : code.Reader)
-    → (read : (lines : List Line) × HasTold lines reader (log_of bytes))
+    → (read : LeavesReader (Ok reader) (log_of bytes))
     → Leaves read.0 (reader_of reader)
 left law bytes reader read =
-    leaves read.0 (reader_of reader) (good_read law bytes read.0 read.1.read_so) read.1.told
+    leaves read.0 (reader_of reader) (good_read law bytes read.0 read.1) read.2
 
 pub living_in-requires : goal.living_in-requires
 living_in-requires c =
@@ -27,4 +26,4 @@ returns c =
     let read = c.in_ok-reader.ensures in
     let left = left c.read_exactly.ensures c.args.bytes.now c.in_ok-reader.reader read in
     λ other. ap (λ (livings : List Resident). Ok livings) (c.in_ok-living_in.ensures ∙ left.living)
-    ∙ sym (ap living_residents_of read.1.read_so)
+    ∙ sym (ap living_residents_of read.1)

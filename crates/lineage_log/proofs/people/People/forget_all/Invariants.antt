@@ -1,5 +1,5 @@
 use Rattle.std.proofs.Common.{◌≡◌, drop}
-use Rattle.lineage_log.specs.People.{without}
+use Rattle.lineage_log.proofs.StandingLemmas.{without}
 use Rattle.lineage_log.proofs.people.People.forget_all.Given as goal
 
 abbrev pub invariant-loop-id : goal.invariant-loop-id
