@@ -1,6 +1,6 @@
 -- The latest common ancestor is an ancestor of all who live, and no greater id is.
 use Rattle.std.proofs.Common.{◌≡◌, ℕ, zero, suc, ◌+◌, ◌-◌, ◌<◌, ◌≤◌, Bool, true, false, eqb, List, [], ◌∷◌, Option, Some, None, length, get_or, max, unwrap_or, refl, sym, ap, subst, ◌∙◌, arith, inl, inr}
-use Rattle.std.specs.Prelude.{◌⊎◌, All, Contains, filter}
+use Rattle.std.specs.Prelude.{All, Contains, filter}
 use Rattle.std.specs.List.{fold, last_or, list_all, list_any, range_with_len, reduce}
 use Rattle.std.proofs.lemmas.Bool.{cases_Bool, or_cases, or_left, or_right}
 use Rattle.std.proofs.lemmas.Bool.Decides.{nat_tests}
@@ -10,7 +10,7 @@ use Rattle.std.proofs.lemmas.List.Sums.{AllPass-from_list_all, list_all-from_All
 use Rattle.lineage_log.specs.Ancestry.{ancestors_within}
 use Rattle.phylogeny.specs.Pedigree.{Dweller, Pedigree}
 use Rattle.phylogeny.specs.CommonAncestor.{descends_from, founding_ancestor_of, is_common, is_kept_id, most_recent_common_ancestor}
-use Rattle.phylogeny.specs.LatestCommon.{HaveTwoFounders, IsLatestCommon, TellsLatestCommon}
+use Rattle.phylogeny.specs.LatestCommon.{TellsLatestCommon}
 use Rattle.phylogeny.specs.Slots.{AreBelow, IsPedigree, living_from, parent_at}
 use Rattle.lineage_log.proofs.AncestorLemmas.{Older, line}
 use Rattle.phylogeny.proofs.AncestorLemmas.{child_root, founder_in, line_head}
@@ -187,24 +187,22 @@ module _ (parents standing : List (Option ℕ)) (sound : IsPedigree parents stan
 
   -- the greatest common id of the kept ones is the latest common ancestor
   some_is_latest : (id : ℕ) → reduce max (filter (is_common here) (kept_from parents standing 0))
-      ≡ Some id → IsLatestCommon here id
+      ≡ Some id → TellsLatestCommon here (Some id)
   some_is_latest id is =
       let greatest = greatest_is (filter (is_common here) (kept_from parents standing 0)) id is in
       let among = filter_holds (is_common here) (kept_from parents standing 0) id greatest.0 in
       let kept = filter_holds (is_kept_id here) (range_with_len 0 (length parents - 0))
       id among.1 in
-      let someone = some_passes (descends_from here id) (everybody parents standing) kept.0 in
-      record {
-        shared = among.0;
-        latest =
-            λ other shared. greatest.1 other (common_is_found other someone.0 someone.1 shared);
-        one_founder = All-from_contained
+      let someone = some_passes (descends_from here id) (everybody parents standing) kept.0 in (
+        among.0,
+        λ other shared. greatest.1 other (common_is_found other someone.0 someone.1 shared),
+        All-from_contained
             (λ who. founding_ancestor_of here who.id ≡ founding_ancestor_of here id)
             (everybody parents standing) (λ who lives.
             founder_same (parent_at parents) sound.older who.id who.id id (omega arith)
             (each_passes (descends_from here id) (everybody parents standing) among.0 who
-            lives));
-      }
+            lives)),
+      )
 
   -- the second has the same founder as the first
   abbrev same_founder : Dweller → Dweller → Bool
@@ -230,7 +228,7 @@ module _ (parents standing : List (Option ℕ)) (sound : IsPedigree parents stan
   -- where no kept id is common, nobody lives, or two who live have different founders
   none_by : (living : List Dweller) → everybody parents standing ≡ living
       → filter (is_common here) (kept_from parents standing 0) ≡ []
-      → (everybody parents standing ≡ []) ⊎ HaveTwoFounders here
+      → TellsLatestCommon here None
   none_by [] is none = inl is
   none_by (who ∷ others) is none =
       let lives : Contains (everybody parents standing) who = rw is (0, omega arith, refl) in
@@ -244,14 +242,14 @@ module _ (parents standing : List (Option ℕ)) (sound : IsPedigree parents stan
             absurd cc
         | inr not_all ↦
             let fails = first_fails (same_founder who) (everybody parents standing) not_all in
-            inr (record {
-              one = fails.0;
-              other = who;
-              one_lives = fails.1;
-              other_lives = lives;
-              apart = λ same. let t : same_founder who fails.0 ≡ true = grind (arith, nat_tests)
-                  in absurd cc;
-            })
+            inr (
+              fails.0,
+              who,
+              fails.1,
+              lives,
+              λ same.
+                  let t : same_founder who fails.0 ≡ true = grind (arith, nat_tests) in absurd cc,
+            )
       ]
 
   -- the greatest common id of the kept ones is the latest common ancestor, or there can be none

@@ -9,16 +9,12 @@ use Rattle.phylogeny.specs.Pedigree.{Dweller, Pedigree, ancestors_of}
 abbrev pub founding_ancestor_of : Pedigree → ℕ → ℕ
 founding_ancestor_of p id = unwrap_or (last_or None (ancestors_of p id)) 0
 
--- how many generations an id is from its founder
-abbrev pub depth_of : Pedigree → ℕ → ℕ
-depth_of p id = length (ancestors_of p id) - 1
-
--- the depth and the founder of who lives
+-- the depth, which is how many generations one is from its founder, and the founder of who lives
 abbrev pub depth_at : Pedigree → Dweller → Depth
 depth_at p who = record {
   cell = who.cell;
   id = who.id;
-  depth = depth_of p who.id;
+  depth = length (ancestors_of p who.id) - 1;
   founder = founding_ancestor_of p who.id;
 }
 
@@ -42,8 +38,7 @@ is_common p id = list_all (descends_from p id) p.living
 unfoldable pub kept_ids_of : Pedigree → List ℕ
 kept_ids_of p = filter (is_kept_id p) p.everyone
 
--- the greatest id that stands in the line of everybody who lives; none where nobody lives, or where
--- two who live have different founders
+-- the greatest id in the line of everybody who lives, if there is one
 unfoldable pub most_recent_common_ancestor : Pedigree → Option ℕ
 most_recent_common_ancestor p = reduce max (filter (is_common p) (kept_ids_of p))
 

@@ -7,14 +7,12 @@ pub record Dweller : Type 0 where
   pub cell : ℕ
   pub id : ℕ
 
--- the parent of each id, which a founder has not; the ids of all organisms ever, rising; and who
--- lives, in order of cells
+-- the parent of each id but a founder's, the ids of all ever, rising, and who lives, by cells
 pub record Pedigree : Type 0 where
   pub parent_of : ℕ → Option ℕ
   pub everyone : List ℕ
   pub living : List Dweller
 
--- an id, its parent, and so on to a founder; a parent's id is lower than its child's, so there are
--- at most `id` generations
+-- an id, its parent, and so on to a founder: parents have lower ids, so at most `id` generations
 abbrev pub ancestors_of : Pedigree → ℕ → List ℕ
 ancestors_of p id = ancestors_within id p.parent_of id

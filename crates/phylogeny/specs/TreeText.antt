@@ -22,12 +22,9 @@ abbrev pub shape_line : Pedigree → List ℕ
 shape_line p =
     codes "K" ++ numbers_text (length (kept_ids_of p) ∷ length (branches_of p) ∷ []) ++ codes "\n"
 
--- the tree of a pedigree
-abbrev pub pedigree_text : Pedigree → List ℕ
-pedigree_text p =
-    flat_map depth_line (depths_of p) ++ ancestor_line (most_recent_common_ancestor p)
-    ++ shape_line p
-
 -- the tree of a log
 abbrev pub tree_text : List Line → List ℕ
-tree_text lines = pedigree_text (pedigree_of lines)
+tree_text lines =
+    let p = pedigree_of lines in
+    flat_map depth_line (depths_of p) ++ ancestor_line (most_recent_common_ancestor p)
+    ++ shape_line p

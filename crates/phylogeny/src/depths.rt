@@ -1,7 +1,8 @@
 // How far the living are from their founders.
-ghost use Rattle.std.specs.Prelude.{◌≡◌, ℕ, ◌<◌, [], Some, IfOk, length, slice_get};
-ghost use Rattle.phylogeny.specs.CommonAncestor.{depth_of, depths_of, founding_ancestor_of};
+ghost use Rattle.std.specs.Prelude.{◌≡◌, ℕ, ◌<◌, [], Some, IfOk, length, slice_get, ◌-◌};
+ghost use Rattle.phylogeny.specs.CommonAncestor.{depths_of, founding_ancestor_of};
 ghost use Rattle.phylogeny.specs.Slots.{HaveLowerIds, IsPedigree, pedigree_with};
+ghost use Rattle.phylogeny.specs.Pedigree.{ancestors_of};
 
 use avida_port::{Items, Memory};
 use std::alloc::Global;
@@ -54,7 +55,7 @@ fn roots_of(alloc: Global, parents: &[Option<u64>]) -> Result<Vec<Root>, Memory>
     requires { HaveLowerIds parents.now }
     ensures { IfOk result (λ roots. (id : ℕ) → id < length parents.now
         → slice_get roots.items id ≡ Some (record {
-          depth = depth_of (pedigree_with parents.now []) id;
+          depth = length (ancestors_of (pedigree_with parents.now []) id) - 1;
           founder = founding_ancestor_of (pedigree_with parents.now []) id;
         })) }
 {

@@ -1,12 +1,13 @@
-use Rattle.std.proofs.Common.{ℕ, Option, ◌≡◌, ◌<◌, ◌++◌, ◌∷◌, [], List, length, map, append-nil, sym, ap, ◌∙◌, arith}
+use Rattle.std.proofs.Common.{ℕ, Option, ◌≡◌, ◌<◌, ◌++◌, ◌∷◌, [], List, length, map, append-nil, sym, ap, ◌∙◌, arith, ◌-◌}
 use Rattle.std.proofs.lemmas.List.{drop_all}
 use Rattle.std.proofs.lemmas.Option.{get_or_from_slice_get, slice_get_within}
-use Rattle.phylogeny.specs.CommonAncestor.{depth_at, depths_of, depth_of, founding_ancestor_of}
+use Rattle.phylogeny.specs.CommonAncestor.{depth_at, depths_of, founding_ancestor_of}
 use Rattle.phylogeny.specs.declared.depths.Root.{Root}
 use Rattle.phylogeny.specs.Slots.{living_from, pedigree_with}
 use Rattle.phylogeny.proofs.SlotLemmas.{mapped_with, mapped_without}
 use Rattle.phylogeny.proofs.depths.depths_in.Goals.{in-Some+in_ok-push, in_default}
 use Rattle.phylogeny.proofs.depths.depths_in.Goals as goal
+use Rattle.phylogeny.specs.Pedigree.{ancestors_of}
 
 pub index-requires : goal.index-requires
 index-requires c =
@@ -28,7 +29,10 @@ loop-cell-preserved c =
           let id = w.in-Some.id in
           let few = c.requires.among cell id w.in-Some.is in
           let root : w.index.result.now
-          ≡ record { depth = depth_of tree id; founder = founding_ancestor_of tree id } =
+          ≡ record {
+            depth = length (ancestors_of tree id) - 1;
+            founder = founding_ancestor_of tree id;
+          } =
           w.index.ensures
           ∙ get_or_from_slice_get c.in_ok-roots.roots.items id _ w.index.result.now
           (c.in_ok-roots.ensures id few) in
