@@ -14,8 +14,8 @@ use Rattle.virtual_cpu.specs.declared.cpu_image.CpuImage.{CpuImage}
 use Rattle.saved_lines.specs.SavedForms.{IsHead, IsMachineLine, IsOrganismLine}
 use Rattle.saved_lines.specs.SavedReading.{are_ordered, machine_at}
 use Rattle.saved_lines.specs.SavedRows.{AreWithin}
-use Rattle.saved_lines.specs.SavedTables.{MachineFields, head_ranges, machine_fields, machine_row, organism_row}
-use Rattle.saved_lines.specs.SavedText.{flag_number, head_numbers, organism_numbers}
+use Rattle.saved_lines.specs.SavedTables.{MachineFields, head_ranges, machine_row, organism_row}
+use Rattle.saved_lines.specs.SavedText.{flag_number, head_numbers, organism_numbers, machine_numbers}
 use Rattle.saved_lines.specs.SavedValues.{HeadValues, OrganismValues}
 
 -- 0 or 1
@@ -168,6 +168,31 @@ organism_is o fits credited gestation inputs =
     }
 
 -- ---- a machine
+
+-- the fields of a machine
+abbrev pub machine_fields : CpuImage → MachineFields
+machine_fields m = (
+  m.registers,
+  (
+    machine_numbers m,
+    (
+      m.nops,
+      (
+        m.first,
+        (
+          m.second,
+          (
+            m.memory,
+            (
+              m.clean,
+              (m.executed, m.copied),
+            ),
+          ),
+        ),
+      ),
+    ),
+  ),
+)
 
 -- the fields of a machine fit their row
 pub machine_fits : (m : CpuImage) → IsMachineLine m → machine_row.Fits (machine_fields m)

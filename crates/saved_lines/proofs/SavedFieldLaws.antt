@@ -8,7 +8,7 @@ use Rattle.std.proofs.lemmas.Bool.Decides.{nat_tests}
 use Rattle.std.proofs.lemmas.Option.{cond_some}
 use Rattle.numerals.specs.Numeral.{number_of}
 use Rattle.numerals.specs.Spelling.{OneNumber}
-use Rattle.log_lines.specs.Fields.{each}
+use Rattle.log_lines.specs.Fields.{each, given}
 use Rattle.log_lines.proofs.FieldLaws.{Above, IsField, number_law, some_map, some_then}
 use Rattle.std.specs.Prelude.{◌&&◌, nat_le}
 use Rattle.std.specs.Str.{bytes_eq}
@@ -22,7 +22,7 @@ use Rattle.label_search.specs.Template.{IsTemplate, is_nop}
 use Rattle.log_lines.specs.Fields.{given}
 use Rattle.log_lines.proofs.LetterLemmas.{letter_of_byte-byte_of}
 use Rattle.log_lines.proofs.FieldLaws.{above_letters, each_takes, letters_again, letters_taken, not_equal, same_bytes}
-use Rattle.saved_lines.specs.SavedFields.{below_zero, read_signed, signed, mark_of, if_any, marks, are_nops, some_nops, read_nops, nops}
+use Rattle.saved_lines.specs.SavedFields.{below_zero, read_signed, signed, mark_of, marks, are_nops, some_nops, read_nops, nops}
 use Rattle.saved_lines.specs.SavedText.{digit_of, nops_text}
 use Rattle.saved_lines.proofs.TextLemmas.{nops_text-some}
 
@@ -134,7 +134,7 @@ marks_law = record {
       let any : nat_lt 0 (length places) ≡ true = grind (arith, nat_tests, some) in
       rw (marks_again places, any) refl;
   takes = λ word places is.
-      let got = some_then if_any (each mark_of word) places is in
+      let got = some_then (λ ps. given (nat_lt 0 (length ps)) ps) (each mark_of word) places is in
       let passed = cond_some (nat_lt 0 (length got.0)) got.0 places got.2 in
       let some : 0 < length got.0 = grind (arith, nat_tests, passed.0) in
       subst (λ (l : List Bool). (map digit_of l ≡ word) × (0 < length l)) passed.1

@@ -21,12 +21,12 @@ use Rattle.saved_lines.specs.declared.range.Range.{Range}
 use Rattle.saved_lines.specs.SavedFields.{signed, marks}
 use Rattle.saved_lines.specs.SavedForms.{HasSavedForm}
 use Rattle.saved_lines.specs.SavedReading.{are_ordered, head_of, saved_head_line, organism_at, organism_of, machine_of, saved_number_at, read_form, read_saved_words, saved_line_of}
-use Rattle.saved_lines.specs.SavedTables.{MachineFields, head_ranges, head_row, organism_ranges, organism_row, machine_ranges, machine_row, machine_fields}
+use Rattle.saved_lines.specs.SavedTables.{MachineFields, head_ranges, head_row, organism_ranges, organism_row, machine_ranges, machine_row}
 use Rattle.saved_lines.specs.SavedText.{saved_row_text, SavedLine, Head, Organism, Machine, Count, head_numbers, organism_numbers}
 use Rattle.saved_lines.specs.SavedRows.{AreWithin, within}
 use Rattle.saved_lines.proofs.FrontLaws.{AreSmall, IsFront, front_law, front_lower, several_law, whole_law, within_law}
 use Rattle.saved_lines.proofs.SavedFieldLaws.{signed_law, marks_law, nops_law}
-use Rattle.saved_lines.proofs.FitsLemmas.{head_fits, head_is, head_ordered, organism_fits, organism_is, machine_fits, machine_is}
+use Rattle.saved_lines.proofs.FitsLemmas.{head_fits, head_is, head_ordered, organism_fits, organism_is, machine_fits, machine_is, machine_fields}
 use Rattle.saved_lines.proofs.SavedValueLaws.{head_again, head_taken, organism_again, organism_taken, machine_again, machine_taken}
 
 -- the line has this text

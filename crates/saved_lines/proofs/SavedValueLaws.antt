@@ -9,11 +9,12 @@ use Rattle.logic_tasks.specs.TaskBitsLaws.{bit_at-number_of, get_or-tasks_of, le
 use Rattle.virtual_cpu.specs.declared.cpu_image.CpuImage.{CpuImage}
 use Rattle.saved_lines.specs.SavedForms.{IsOrganismLine, IsMachineLine}
 use Rattle.saved_lines.specs.SavedReading.{saved_number_at, head_of, organism_at, organism_of, machine_of}
-use Rattle.saved_lines.specs.SavedTables.{any_flag, head_ranges, organism_ranges, machine_ranges, machine_fields}
+use Rattle.saved_lines.specs.SavedTables.{any_flag, head_ranges, organism_ranges, machine_ranges}
 use Rattle.saved_lines.specs.SavedText.{Organism, Machine, flag_number, head_numbers, organism_numbers}
 use Rattle.saved_lines.specs.SavedRows.{AreWithin}
 use Rattle.saved_lines.specs.SavedValues.{HeadValues, OrganismValues}
 use Rattle.saved_lines.proofs.RangeLemmas.{bound_at, within_length}
+use Rattle.saved_lines.proofs.FitsLemmas.{machine_fields}
 
 -- ---- lists and their items
 

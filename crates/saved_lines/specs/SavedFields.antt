@@ -31,16 +31,13 @@ signed =
 abbrev pub mark_of : ℕ → Option Bool
 mark_of byte = if byte == 49 then Some true else if byte == 48 then Some false else None
 
--- the list that is not empty
-abbrev pub if_any : {A : Type 0} → List A → Option (List A)
-if_any items = given (nat_lt 0 (length items)) items
-
 -- a digit for each place, of which there is at least one
 abbrev pub marks : Field (List Bool)
 marks =
     record {
       text = map digit_of;
-      read = λ word. option_and_then if_any (each mark_of word);
+      read = λ word.
+          option_and_then (λ ps. given (nat_lt 0 (length ps)) ps) (each mark_of word);
       Fits = λ places. 0 < length places;
     }
 

@@ -80,14 +80,13 @@ organism_of p = Organism (organism_at p.0 p.1)
 
 -- the machine of the fields of its line
 abbrev pub machine_at : MachineFields → CpuImage
-machine_at (registers, (numbers, (nops, (first, (second, (memory, (clean, (executed, copied))))))))
-    =
+machine_at (registers, (ns, (nops, (first, (second, (memory, (clean, (executed, copied)))))))) =
     record {
       registers = registers;
-      active = saved_number_at numbers 0;
-      heads = saved_number_at numbers 1 ∷ saved_number_at numbers 2
-          ∷ saved_number_at numbers 3 ∷ saved_number_at numbers 4 ∷ [];
-      pending = saved_flag_at numbers 5;
+      active = saved_number_at ns 0;
+      heads = saved_number_at ns 1 ∷ saved_number_at ns 2 ∷ saved_number_at ns 3
+          ∷ saved_number_at ns 4 ∷ [];
+      pending = saved_flag_at ns 5;
       nops = nops;
       first = first;
       second = second;

@@ -6,8 +6,7 @@ use Rattle.log_lines.specs.Fields.{Field}
 use Rattle.log_lines.specs.Rows.{Row}
 use Rattle.saved_lines.specs.declared.range.Range.{Range}
 
--- their texts, what is read of the front of some words, with the words behind it, and which values
--- have such words
+-- the words of values, what is read of the front of words, with those behind it, and which fit
 pub record Front (A : Type 0) : Type 1 where
   pub texts : A → List (List ℕ)
   pub read : List (List ℕ) → Option (A × List (List ℕ))

@@ -4,11 +4,9 @@ use Rattle.std.specs.Prelude.{ℕ, ℤ, Bool, List, [], ◌∷◌}
 use Rattle.instruction_set.specs.declared.letter.Letter.{Letter}
 use Rattle.log_lines.specs.Fields.{genome_field}
 use Rattle.log_lines.specs.Rows.{Row, last, ◌◂◌}
-use Rattle.virtual_cpu.specs.declared.cpu_image.CpuImage.{CpuImage}
 use Rattle.saved_lines.specs.SavedFields.{signed, nops, marks}
 use Rattle.saved_lines.specs.declared.range.Range.{Range}
 use Rattle.saved_lines.specs.SavedRows.{from_to, several, within, whole, ◌◁◌}
-use Rattle.saved_lines.specs.SavedText.{machine_numbers}
 
 -- a number below 2 ^ 32
 abbrev pub any_small : Range
@@ -26,8 +24,7 @@ any_flag = from_to 0 1
 abbrev pub any_rate : Range
 any_rate = from_to 0 1000000
 
--- the ranges of the first line: its version, and the values of a head in their order, in lines like
--- those of `head_numbers`
+-- the ranges of the first line: its version, and the values of a head, in lines like `head_numbers`
 abbrev pub head_ranges : List Range
 head_ranges =
     from_to 1 1 ∷ from_to 1 256 ∷ from_to 1 256 ∷ from_to 0 1000000
@@ -41,8 +38,7 @@ head_ranges =
 abbrev pub head_row : Row (List ℕ)
 head_row = whole (within head_ranges)
 
--- cell, id and merit; credited set, age, inputs read and gestation set, where a set of tasks is a
--- number up to 511; and the low 24 bits of the three inputs
+-- cell, id, merit; credited set, age, inputs read, gestation set; low 24 bits of the three inputs
 abbrev pub organism_ranges : List Range
 organism_ranges =
     any_small ∷ any_large ∷ any_large
@@ -59,28 +55,16 @@ machine_ranges =
     any_flag ∷ any_small ∷ any_small ∷ any_small ∷ any_small ∷ any_flag ∷ []
 
 -- memory, clean text, and the places that are marked executed and copied
-abbrev pub MachineTexts : Type 0
-MachineTexts = List Letter × (List Letter × (List Bool × List Bool))
-
--- the words of these four texts
-abbrev pub texts_row : Row MachineTexts
+abbrev pub texts_row : Row (List Letter × (List Letter × (List Bool × List Bool)))
 texts_row = genome_field ◂ (genome_field ◂ (marks ◂ last marks))
-
--- the four texts of a machine
-abbrev pub texts_of : CpuImage → MachineTexts
-texts_of image = (image.memory, (image.clean, (image.executed, image.copied)))
 
 -- the fields of a machine's line: registers, numbers, nops read last, stacks, and the four texts
 abbrev pub MachineFields : Type 0
-MachineFields = List ℤ × (List ℕ × (List Letter × (List ℤ × (List ℤ × MachineTexts))))
+MachineFields = List ℤ × (List ℕ × (List Letter × (List ℤ × (List ℤ
+    × (List Letter × (List Letter × (List Bool × List Bool)))))))
 
 -- the line of a machine
 abbrev pub machine_row : Row MachineFields
 machine_row =
     several 3 signed ◁ (within machine_ranges ◁ (nops ◂ (several 10 signed
     ◁ (several 10 signed ◁ texts_row))))
-
--- the fields of a machine
-abbrev pub machine_fields : CpuImage → MachineFields
-machine_fields m =
-    (m.registers, (machine_numbers m, (m.nops, (m.first, (m.second, texts_of m)))))

@@ -66,8 +66,7 @@ nops_text (nop ∷ nops) = map byte_of (nop ∷ nops)
 abbrev pub signed_words : List ℤ → List (List ℕ)
 signed_words numbers = map signed_decimal numbers
 
--- the words of a machine: registers, numbers, nops read last, both stacks, memory, clean text, and
--- the places that are marked executed and copied
+-- registers, numbers, nops read last, stacks, memory, clean text, places marked executed and copied
 abbrev pub machine_words : CpuImage → List (List ℕ)
 machine_words m =
     signed_words m.registers ++ (decimals (machine_numbers m) ++ (nops_text m.nops

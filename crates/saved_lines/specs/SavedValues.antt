@@ -7,8 +7,7 @@ use Rattle.mutations.specs.Rates.{RateNumbers, numbers_of}
 use Rattle.saved_lines.specs.declared.state_head.StateHead.{StateHead}
 use Rattle.saved_lines.specs.declared.resident.Resident.{Resident}
 
--- the first line: the world's size, how far it is, and what goes on holding in it; the rates are
--- those of the next update
+-- the first line: the world's size, how far it is, what goes on in it, and the next update's rates
 pub record HeadValues : Type 0 where
   pub width : ℕ
   pub height : ℕ
