@@ -35,7 +35,7 @@ module _ (head : HeadValues) (placed : List Placed) (one : Placed) (others : Lis
   above_those = list_all-from_AllPass (λ (p : Placed). nat_lt p.cell one.cell) placed
       (λ k d there. lt-ltb (get_or placed k d).cell one.cell
       (saved.rising k (length placed) (get_or placed k d) one there
-      (at_front placed (one ∷ others) k d there) (at_seam placed one others)).cell)
+      (at_front placed (one ∷ others) k d there) (at_seam placed one others)).0)
 
   -- each of them has another id
   pub new_to_those : is_new one.occupant.id placed ≡ true
@@ -43,7 +43,7 @@ module _ (head : HeadValues) (placed : List Placed) (one : Placed) (others : Lis
       list_all-from_AllPass (λ (p : Placed). not (p.occupant.id == one.occupant.id)) placed
       (λ k d there. ap not (ne_eqb (get_or placed k d).occupant.id one.occupant.id
       (saved.rising k (length placed) (get_or placed k d) one there
-      (at_front placed (one ∷ others) k d there) (at_seam placed one others)).id))
+      (at_front placed (one ∷ others) k d there) (at_seam placed one others)).1))
 
   -- and may stand there
   pub stands_itself : MayStandThere head one

@@ -29,11 +29,11 @@ organism_form head cell o in_range stands =
       cell = omega (arith, stands.cell, cells);
       id = omega (arith, lives.id, in_range.next_id.1);
       merit = omega (arith, lives.sound.merit);
-      credited = lives.kinds.credited;
+      credited = lives.credited;
       age = omega (arith, lives.age);
       read = omega (arith, lives.age, lives.sound.organism.read);
-      gestation = lives.kinds.gestation;
-      inputs = lives.kinds.inputs;
+      gestation = lives.gestation;
+      inputs = lives.inputs;
       genome = lives.sound.genome;
     }
 

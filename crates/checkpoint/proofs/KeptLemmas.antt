@@ -1,5 +1,5 @@
 -- What is kept of the organisms that were told, with one organism more.
-use Rattle.std.proofs.Common.{◌≡◌, ℕ, zero, suc, ◌+◌, ◌≤◌, ◌==◌, Bool, true, false, cond, List, [], ◌∷◌, ◌++◌, Some, length, refl, ap, subst, arith, inl, inr}
+use Rattle.std.proofs.Common.{◌≡◌, ℕ, zero, suc, ◌+◌, ◌≤◌, ◌==◌, Bool, true, false, cond, List, [], ◌∷◌, ◌++◌, Some, length, refl, ap, subst, arith, inl, inr, ◌≢◌, ◌<◌}
 use Rattle.std.specs.List.{list_all}
 use Rattle.std.specs.Ordering.{nat_cmp}
 use Rattle.std.specs.Prelude.{◌⊎◌, ◌&&◌, not, nat_le, nat_lt, slice_get}
@@ -12,7 +12,7 @@ use Rattle.std.proofs.lemmas.List.Folds.{list_all-append}
 use Rattle.std.proofs.lemmas.Option.{slice_get_within}
 use Rattle.saved_lines.specs.SavedValues.{HeadValues}
 use Rattle.saved_worlds.specs.SavedGrammar.{Placed, is_above, is_new}
-use Rattle.saved_worlds.specs.ValidState.{AreSaved, IsBefore, MayStandThere}
+use Rattle.saved_worlds.specs.ValidState.{AreSaved, MayStandThere}
 
 -- a key is at another exactly where they are one number
 pub at_key : (a b : ℕ) → is_at (nat_cmp a) b ≡ (a == b)
@@ -93,10 +93,11 @@ saved_more head placed one saved stands above fresh = record {
               other in
               let new = all_at (λ (p : Placed). not (p.occupant.id == one.occupant.id)) placed
               first place fresh other in
-              subst (λ (p : Placed). IsBefore first p) last.1 (record {
-                cell = grind (arith, nat_tests, lower);
-                id = λ same. grind (arith, nat_tests, new, same);
-              }))
+              subst (λ (p : Placed). (first.cell < p.cell) × (first.occupant.id ≢ p.occupant.id))
+              last.1 (
+                grind (arith, nat_tests, lower),
+                λ same. grind (arith, nat_tests, new, same),
+              ))
           | inr again ↦ absurd (omega (arith, last.0, again.0, before))
         ]
       ];

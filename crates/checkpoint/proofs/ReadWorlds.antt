@@ -8,7 +8,7 @@ use Rattle.saved_lines.specs.SavedForms.{HasSavedForm, IsMachineLine, IsOrganism
 use Rattle.saved_lines.specs.SavedReading.{saved_line_of}
 use Rattle.saved_lines.specs.SavedText.{SavedLine, Head, Organism, Machine, Count}
 use Rattle.saved_lines.specs.SavedValues.{HeadValues, OrganismValues}
-use Rattle.saved_worlds.specs.SavedGrammar.{SavedPlace, Before, Among, Halfway, After, Placed, after_saved_line, last_saved_piece, may_follow, may_stand, one_saved_piece, pieces_state, placed_of, saved_end, saved_of, state_of_lines, told_saved_line}
+use Rattle.saved_worlds.specs.SavedGrammar.{SavedPlace, Before, Among, Halfway, After, Placed, after_saved_line, last_saved_piece, may_follow, may_stand, one_saved_piece, pieces_state, placed_of, saved_of, state_of_lines, told_saved_line}
 use Rattle.saved_worlds.specs.SavedState.{SavedState}
 use Rattle.saved_worlds.specs.declared.saved_stop.SavedStop.{SavedStop}
 use Rattle.saved_worlds.specs.ValidState.{AreSaved, IsHead, MayStandThere}
@@ -81,7 +81,7 @@ module _ (takes : TakesForms) (made : LinesAreWritable) where
 
   -- the end of the bytes
   end_good : (number : ℕ) (place : SavedPlace) (state : SavedState) → IsGood place
-      → saved_end number place ≡ Ok state → IsWritable state
+      → last_saved_piece number place [] ≡ Ok state → IsWritable state
   end_good number (After state) other good h =
       let same : state ≡ other = cc in subst IsWritable same good
   end_good number _ other good h = absurd cc

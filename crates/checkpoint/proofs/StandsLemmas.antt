@@ -168,10 +168,8 @@ module _ (head : HeadValues) (o : OrganismValues) (image : CpuImage) where
       age = stands.age;
       young = λ death. young_there death stands.young;
       limit = refl;
-      kinds = record {
-        credited = organism.credited;
-        gestation = organism.gestation;
-        inputs = organism.inputs;
-      };
+      credited = organism.credited;
+      gestation = organism.gestation;
+      inputs = organism.inputs;
     };
   }

@@ -1,5 +1,5 @@
 -- What stands in a state that can be written may stand in a saved world.
-use Rattle.std.proofs.Common.{◌≡◌, ◌∙◌, refl, sym, ap, subst, ℕ, zero, suc, ◌+◌, ◌*◌, ◌<◌, ◌^◌, List, [], ◌∷◌, Option, Some, None, arith}
+use Rattle.std.proofs.Common.{◌≡◌, ◌∙◌, refl, sym, ap, subst, ℕ, zero, suc, ◌+◌, ◌*◌, ◌<◌, ◌^◌, List, [], ◌∷◌, Option, Some, None, arith, ◌≢◌}
 use Rattle.std.specs.Prelude.{slice_get}
 use Rattle.std.specs.List.{AllByRecursion}
 use Rattle.std.proofs.lemmas.List.{length-replicate}
@@ -9,7 +9,7 @@ use Rattle.world_rules.specs.World.{Occupant}
 use Rattle.saved_worlds.specs.Resuming.{forgotten}
 use Rattle.saved_worlds.specs.SavedGrammar.{Placed}
 use Rattle.saved_worlds.specs.SavedState.{SavedState}
-use Rattle.saved_worlds.specs.ValidState.{AreSaved, IsBefore, MayStandThere}
+use Rattle.saved_worlds.specs.ValidState.{AreSaved, MayStandThere}
 use Rattle.saved_worlds.proofs.Valid.{head_up}
 use Rattle.checkpoint.specs.Writable.{IsWritable}
 
@@ -93,28 +93,26 @@ module _ (state : SavedState) (is : IsWritable state) where
           age = is.fits.ages cell o h;
           young = range.young;
           limit = range.limit;
-          kinds = record {
-            credited = range.credited;
-            gestation = range.gestation;
-            inputs = range.inputs;
-          };
+          credited = range.credited;
+          gestation = range.gestation;
+          inputs = range.inputs;
         };
       }
 
   -- an id stands in one cell
   come_before : (place next : ℕ) (one other : Placed) → place < next
       → slice_get (standing_from 0 state.cells) place ≡ Some one
-      → slice_get (standing_from 0 state.cells) next ≡ Some other → IsBefore one other
+      → slice_get (standing_from 0 state.cells) next ≡ Some other
+      → (one.cell < other.cell) × (one.occupant.id ≢ other.occupant.id)
   come_before place next one other before h k =
       let low = in_order 0 state.cells place next one other before h k in
       let a = stood 0 state.cells place one h in
-      let b = stood 0 state.cells next other k in
-      record {
-        cell = low;
-        id = λ same.
+      let b = stood 0 state.cells next other k in (
+        low,
+        λ same.
             let cells = is.valid.stand.own.apart a.0 b.0 one.occupant other.occupant a.2 b.2 same in
-            omega (arith, low, a.1, b.1, cells);
-      }
+            omega (arith, low, a.1, b.1, cells),
+      )
 
   -- so a saved world can be made of it
   pub state_saved : AreSaved state.head (standing_from 0 state.cells)

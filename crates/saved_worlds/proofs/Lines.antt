@@ -71,9 +71,9 @@ in_range head ages o young lives = record {
   age = young;
   young = lives.young;
   limit = lives.limit;
-  credited = lives.kinds.credited;
-  gestation = lives.kinds.gestation;
-  inputs = lives.kinds.inputs;
+  credited = lives.credited;
+  gestation = lives.gestation;
+  inputs = lives.inputs;
 }
 
 module _ (head : HeadValues) (placed : List Placed) (saved : AreSaved head placed) where
@@ -114,10 +114,10 @@ module _ (head : HeadValues) (placed : List Placed) (saved : AreSaved head place
             let is : one ≡ two = cc in ap (λ (p : Placed). p.cell) is
         | inr unequal ↦ elim (cases_lt first.0 second.0) [
           | inl low ↦ absurd
-              ((saved.rising first.0 second.0 one two low first.1 second.1).id same)
+              ((saved.rising first.0 second.0 one two low first.1 second.1).1 same)
           | inr high ↦
               let below : second.0 < first.0 = omega (arith, high, unequal) in
-              absurd ((saved.rising second.0 first.0 two one below second.1 first.1).id (sym same))
+              absurd ((saved.rising second.0 first.0 two one below second.1 first.1).1 (sym same))
         ]
       ]
 

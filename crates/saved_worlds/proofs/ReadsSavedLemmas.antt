@@ -166,17 +166,16 @@ goes place number (piece ∷ next ∷ pieces) bytes is =
 pub saved_is_read : (bytes : List ℕ) → ReadsSaved bytes (saved_of bytes)
 unfolding saved_of
 saved_is_read bytes =
-    let on = goes Before 1 (cut bytes) bytes refl in (
-      record {
-        lines = on.lines;
-        place = on.next;
-        left = on.left;
-        text = on.text;
-        forms = on.forms;
-        order = on.order;
-      },
-      subst (λ (n : ℕ). EndsSaved on.next n on.left (saved_of bytes)) on.counted on.end,
-    )
+    let on = goes Before 1 (cut bytes) bytes refl in
+    record {
+      lines = on.lines;
+      place = on.next;
+      left = on.left;
+      text = on.text;
+      forms = on.forms;
+      order = on.order;
+      ends = subst (λ (n : ℕ). EndsSaved on.next n on.left (saved_of bytes)) on.counted on.end;
+    }
 
 -- ---- and a reading is what the function answers
 
@@ -259,6 +258,5 @@ pub reads_one_saved : (bytes : List ℕ) (answer : Result SavedState SavedStop)
     → ReadsSaved bytes answer → saved_of bytes ≡ answer
 unfolding saved_of
 reads_one_saved bytes answer reads =
-    let front = reads.0 in
-    rw (← front.text) (lines_on Before front.place 1 front.lines front.left front.forms front.order
-    ∙ end_reads front.place (length front.lines + 1) front.left answer reads.1)
+    rw (← reads.text) (lines_on Before reads.place 1 reads.lines reads.left reads.forms reads.order
+    ∙ end_reads reads.place (length reads.lines + 1) reads.left answer reads.ends)

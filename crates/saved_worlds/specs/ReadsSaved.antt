@@ -1,7 +1,6 @@
--- What bytes are read as, where a saved world is wanted (docs/FORMATS.md, "Saved worlds"): lines
--- with which they begin, and what is left behind these. For example, behind the first line of a
--- world the bytes `Z 1` and a newline have the fault `BadState` in line 2, since nobody stands in
--- it, and the bytes `Z 0` without a newline have the fault `BadLine`.
+-- What bytes are read as, where a saved world is wanted (docs/FORMATS.md, "Saved worlds"). Behind
+-- the first line of a world, for example, `Z 1` and a newline have the fault `BadState` in line 2,
+-- since nobody stands in it, and `Z 0` without a newline has the fault `BadLine`.
 use Rattle.std.specs.Prelude.{◌≡◌, ◌≢◌, ℕ, ◌+◌, List, [], ◌∷◌, ◌++◌, length, flat_map, Option, None, Some, Result, Ok, Err, option_and_then}
 use Rattle.std.specs.List.{AllByRecursion}
 use Rattle.saved_lines.specs.SavedForms.{HasSavedForm}
@@ -16,15 +15,6 @@ abbrev pub told_saved_lines : SavedPlace → List SavedLine → Option SavedPlac
 told_saved_lines place [] = Some place
 told_saved_lines place (line ∷ lines) =
     option_and_then (λ next. told_saved_lines next lines) (told_saved_line place line)
-
--- lines that fit, with which the bytes begin, the place after them, and what is left
-pub record SavedFront (bytes : List ℕ) : Type 0 where
-  pub lines : List SavedLine
-  pub place : SavedPlace
-  pub left : List ℕ
-  pub text : flat_map saved_line_text lines ++ left ≡ bytes
-  pub forms : AllByRecursion HasSavedForm lines
-  pub order : told_saved_lines Before lines ≡ Some place
 
 -- the bytes begin with a line
 pub record BeginsWithLine (bytes : List ℕ) : Type 0 where
@@ -44,8 +34,12 @@ EndsSaved place number left (Err (stop.Unended line)) =
     (line ≡ number) × (left ≡ []) × ((state : SavedState) → place ≢ After state)
 EndsSaved place number left (Err stop.Memory) = ⊥
 
--- the bytes are read as this state, or rejected for this
-abbrev pub ReadsSaved : List ℕ → Result SavedState SavedStop → Type 0
-ReadsSaved bytes answer =
-    (front : SavedFront bytes)
-    × EndsSaved front.place (length front.lines + 1) front.left answer
+-- bytes read as this state, or rejected: lines that fit, the place after them, and what is left
+pub record ReadsSaved (bytes : List ℕ) (answer : Result SavedState SavedStop) : Type 0 where
+  pub lines : List SavedLine
+  pub place : SavedPlace
+  pub left : List ℕ
+  pub text : flat_map saved_line_text lines ++ left ≡ bytes
+  pub forms : AllByRecursion HasSavedForm lines
+  pub order : told_saved_lines Before lines ≡ Some place
+  pub ends : EndsSaved place (length lines + 1) left answer

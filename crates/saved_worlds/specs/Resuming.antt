@@ -10,8 +10,7 @@ use Rattle.world_rules.specs.LogText.{update_lines, end_text}
 use Rattle.saved_lines.specs.SavedValues.{HeadValues}
 use Rattle.saved_worlds.specs.SavedState.{SavedState}
 
--- what a head goes on with, as a configuration without events; of its ancestor a saved world tells
--- nothing
+-- what a head goes on with, as a configuration without events and ancestor
 abbrev pub config_of_head : HeadValues → ConfigValues
 config_of_head head = record {
   width = head.width;
@@ -30,8 +29,7 @@ config_of_head head = record {
   event = [];
 }
 
--- stands for each organism that ever was: a saved world tells how many they were, and nothing more
--- of them
+-- stands for each organism that ever was: a saved world tells no more of them than their number
 abbrev pub forgotten : Link
 forgotten = founder_link 0 0 0 []
 

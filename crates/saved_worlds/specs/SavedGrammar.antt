@@ -4,20 +4,16 @@ use Rattle.std.specs.Prelude.{ℕ, ◌+◌, ◌==◌, List, [], ◌∷◌, Optio
 use Rattle.std.specs.List.{slice_split}
 use Rattle.saved_lines.specs.SavedReading.{saved_line_of}
 use Rattle.saved_lines.specs.SavedText.{SavedLine}
-pub use Rattle.saved_worlds.specs.SavedOrder.{Placed, SavedPlace, Before, Among, Halfway, After, is_above, is_new, is_young, may_stand, are_within, may_follow, organism_of_lines, placed_of, with_placed, state_of_lines, told_saved_line}
+pub use Rattle.saved_worlds.specs.SavedOrder.{Placed, SavedPlace, Before, Among, Halfway, After, is_above, is_new, is_young, may_stand, are_within, may_follow, placed_of, with_placed, state_of_lines, told_saved_line}
 use Rattle.saved_worlds.specs.SavedState.{SavedState}
 use Rattle.saved_worlds.specs.declared.saved_stop.SavedStop.{SavedStop}
 use Rattle.saved_worlds.specs.declared.saved_stop.SavedStop.TheVariants as stop
 
--- the end of the bytes, behind the last newline
-abbrev pub saved_end : ℕ → SavedPlace → Result SavedState SavedStop
-saved_end number (After state) = Ok state
-saved_end number _ = Err (stop.Unended number)
-
 -- the last piece, which has no newline
 abbrev pub last_saved_piece : ℕ → SavedPlace → List ℕ → Result SavedState SavedStop
-last_saved_piece number place [] = saved_end number place
 last_saved_piece number place (b ∷ bs) = Err (stop.BadLine number)
+last_saved_piece number (After state) [] = Ok state
+last_saved_piece number _ [] = Err (stop.Unended number)
 
 -- a place or none, and what follows
 abbrev pub after_saved_line :
@@ -42,7 +38,6 @@ pieces_state number place (piece ∷ next ∷ pieces) =
     one_saved_piece number place (saved_line_of piece)
     (λ p. pieces_state (number + 1) p (next ∷ pieces))
 
--- the state whose text the bytes are, or the first faulty line, numbered from 1; `Memory` is never
--- the answer
+-- the state with this text, or the first faulty line, from 1; `Memory` is never the answer
 unfoldable pub saved_of : List ℕ → Result SavedState SavedStop
 saved_of bytes = pieces_state 1 Before (slice_split (λ b. b == 10) bytes)

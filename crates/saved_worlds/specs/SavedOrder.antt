@@ -2,7 +2,6 @@
 -- where, and the state that they tell.
 use Rattle.std.specs.Prelude.{ℕ, ◌*◌, ◌^◌, ◌==◌, ◌&&◌, Bool, true, not, nat_lt, nat_le, List, [], ◌∷◌, ◌++◌, length, fold, replicate, Option, None, Some, if◌then◌else◌, slice_set}
 use Rattle.std.specs.List.{list_all}
-use Rattle.organism.specs.OrganismState.{OrganismState}
 use Rattle.virtual_cpu.specs.declared.cpu_image.CpuImage.{CpuImage}
 use Rattle.virtual_cpu.specs.Image.{machine_of_image}
 use Rattle.world_rules.specs.World.{Occupant}
@@ -35,8 +34,7 @@ abbrev pub is_young : HeadValues → OrganismValues → Bool
 is_young head o =
     if head.death then nat_lt o.age (head.age_limit * length o.genome) else true
 
--- the line of an organism may come: its cell, its id, its merit, its genome's length and its age
--- are in order
+-- the line of an organism may come: cell, id, merit, its genome's length and its age are in order
 abbrev pub may_stand : HeadValues → List Placed → OrganismValues → Bool
 may_stand head placed o =
     nat_lt o.cell (head.width * head.height)
@@ -52,8 +50,7 @@ may_stand head placed o =
 abbrev pub are_within : CpuImage → Bool
 are_within image = list_all (λ head. nat_lt head (length image.memory)) image.heads
 
--- the line of a machine may follow that of its organism: its texts have one length, which is not
--- too long, and its heads are within it
+-- the line of a machine may follow: its texts have one length, not too long, with its heads within
 abbrev pub may_follow : HeadValues → OrganismValues → CpuImage → Bool
 may_follow head o image =
     (length image.clean == length image.memory)
@@ -63,25 +60,24 @@ may_follow head o image =
     && nat_le (length image.memory) ((if image.pending then 6 else 2) * length o.genome)
     && are_within image
 
--- the organism of its two lines
-abbrev pub organism_of_lines : HeadValues → OrganismValues → CpuImage → OrganismState
-organism_of_lines head o image = record {
-  genome = o.genome;
-  inputs = o.inputs;
-  merit = o.merit;
-  credited = o.credited;
-  age = o.age;
-  read = o.read;
-  gestation = o.gestation;
-  machine = machine_of_image image (length o.genome) head.memory_limit;
-}
-
--- and its cell
+-- the organism of its two lines, and its cell
 abbrev pub placed_of : HeadValues → OrganismValues → CpuImage → Placed
 placed_of head o image =
     record {
       cell = o.cell;
-      occupant = record { id = o.id; organism = organism_of_lines head o image };
+      occupant = record {
+        id = o.id;
+        organism = record {
+          genome = o.genome;
+          inputs = o.inputs;
+          merit = o.merit;
+          credited = o.credited;
+          age = o.age;
+          read = o.read;
+          gestation = o.gestation;
+          machine = machine_of_image image (length o.genome) head.memory_limit;
+        };
+      };
     }
 
 -- an organism stands in its cell

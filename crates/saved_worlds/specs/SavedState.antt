@@ -11,8 +11,7 @@ pub record SavedState : Type 0 where
   pub head : HeadValues
   pub cells : List (Option Occupant)
 
--- the head of a run after so many updates, with this next id; the rates are those of the next
--- update
+-- the head of a run after so many updates, with this next id and the rates of the next update
 abbrev pub head_at : ConfigValues → ℕ → ℕ → HeadValues
 head_at config update next_id = record {
   width = config.width;

@@ -31,8 +31,7 @@ slot_text cell (Some o) = resident_text (values_in cell o) (image_of o.organism.
 abbrev pub cell_text : ℕ × Option Occupant → List ℕ
 cell_text place = slot_text place.0 place.1
 
--- the text of a saved world: its head, who stands in the cells in their order, and how many they
--- are
+-- the text of a saved world: its head, who stands in the cells, in order, and how many they are
 unfoldable pub saved_text : SavedState → List ℕ
 saved_text state =
     saved_head_text state.head

@@ -2,7 +2,6 @@
 use Rattle.std.specs.Prelude.{◌≡◌, ◌≢◌, ℕ, ◌+◌, ◌*◌, ◌<◌, ◌≤◌, ◌^◌, true, All, List, Some, length, slice_get}
 use Rattle.logic_tasks.specs.Inputs.{HasTopBytes}
 use Rattle.organism.specs.Lived.{IsSoundOrganism}
-use Rattle.organism.specs.OrganismState.{OrganismState}
 use Rattle.mutations.specs.RecordForm.{IsWithin}
 use Rattle.world_rules.specs.World.{Occupant}
 use Rattle.world_laws.specs.Ranges.{StandInRange}
@@ -13,12 +12,6 @@ use Rattle.saved_worlds.specs.Resuming.{config_of_head, world_of_state}
 use Rattle.saved_worlds.specs.SavedOrder.{Placed, placed_of}
 use Rattle.saved_worlds.specs.SavedState.{SavedState}
 
--- its sets are of nine tasks, and its inputs have the top bytes
-pub record HasKinds (o : OrganismState) : Type 0 where
-  pub credited : length o.credited ≡ 9
-  pub gestation : length o.gestation ≡ 9
-  pub inputs : HasTopBytes o.inputs
-
 -- an organism that may stand in a world with this head
 pub record MayLive (head : HeadValues) (o : Occupant) : Type 0 where
   pub sound : IsSoundOrganism o.organism
@@ -27,19 +20,16 @@ pub record MayLive (head : HeadValues) (o : Occupant) : Type 0 where
   pub age : o.organism.age < 2 ^ 48
   pub young : head.death ≡ true → o.organism.age < head.age_limit * length o.organism.genome
   pub limit : o.organism.machine.limit ≡ head.memory_limit
-  pub kinds : HasKinds o.organism
+  pub credited : length o.organism.credited ≡ 9
+  pub gestation : length o.organism.gestation ≡ 9
+  pub inputs : HasTopBytes o.organism.inputs
 
 -- so does who stands in a cell of the world
 pub record MayStandThere (head : HeadValues) (placed : Placed) : Type 0 where
   pub cell : placed.cell < head.width * head.height
   pub occupant : MayLive head placed.occupant
 
--- the one stands in a cell below that of the other, and has another id
-pub record IsBefore (one other : Placed) : Type 0 where
-  pub cell : one.cell < other.cell
-  pub id : one.occupant.id ≢ other.occupant.id
-
--- a head and organisms, in the order of their cells, of which a saved world can be made
+-- a head and organisms of which a saved world can be made: in the order of cells, with own ids
 pub record AreSaved (head : HeadValues) (placed : List Placed) : Type 0 where
   pub values : IsHead head
   pub each : All (MayStandThere head) placed
@@ -47,14 +37,13 @@ pub record AreSaved (head : HeadValues) (placed : List Placed) : Type 0 where
       → place < next
       → slice_get placed place ≡ Some one
       → slice_get placed next ≡ Some other
-      → IsBefore one other
+      → (one.cell < other.cell) × (one.occupant.id ≢ other.occupant.id)
 
 -- the organism of a resident, in its cell
 abbrev pub placed_in : HeadValues → Resident → Placed
 placed_in head resident = placed_of head (organism_values resident) resident.image.cpu
 
--- a state that can go on: its head is in range, and who stand in its cells are sound and in range,
--- each with its own id; the bounds of the next id and of ages rise with the update
+-- its head and who stand in it are in range; the bounds of next id and ages rise with the update
 pub record CanGoOn (state : SavedState) : Type 0 where
   pub head : IsHeadUpTo (2 ^ 62 + 2 ^ 32 * state.head.update) state.head
   pub stand : StandInRange (config_of_head state.head) (2 ^ 48 + 2 ^ 27 * state.head.update)
