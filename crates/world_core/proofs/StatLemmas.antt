@@ -25,7 +25,7 @@ use Rattle.logic_tasks.specs.TaskSet.{has_task}
 use Rattle.organism.specs.OrganismState.{OrganismState}
 use Rattle.world_rules.specs.World.{Occupant, ids_of}
 use Rattle.world_rules.specs.Lives.{merit_in}
-use Rattle.world_rules.specs.Statistics.{counted_in, genome_count, credited_with, genomes_of_cells, organisms_in}
+use Rattle.world_rules.specs.Statistics.{counted_in, credited_with, genomes_of_cells, organisms_in}
 use Rattle.world_core.specs.Population.{AreCountedIn, occupant_genomes}
 use Rattle.world_core.proofs.StandingLemmas.{OneList, cells_of, count_in, is_found}
 use Rattle.world_core.proofs.SumLemmas.{cells_with, one}
@@ -67,7 +67,8 @@ credited-in (Some o ∷ cells) task =
 
 -- the living with a genome
 genome-in : (cells : List (Option Occupant)) (genome : List Letter)
-    → cells_of (occupant_genomes cells) genome ≡ genome_count (genomes_of_cells cells) genome
+    → cells_of (occupant_genomes cells) genome
+    ≡ count_by (same_letters genome) (genomes_of_cells cells)
 genome-in [] genome = refl
 genome-in (None ∷ cells) genome = grind (arith, sum_by-cons, genome-in cells genome)
 genome-in (Some o ∷ cells) genome =
@@ -121,7 +122,7 @@ module _ (one_list : OneList) where
 
   -- a genome that is counted is among the genomes
   counted-among : (genomes : List (List Letter)) (genome : List Letter)
-      → 0 < genome_count genomes genome → Contains genomes genome
+      → 0 < count_by (same_letters genome) genomes → Contains genomes genome
   counted-among [] genome some = absurd (omega (arith, some))
   counted-among (g ∷ gs) genome some = elim (cases_Bool (same_letters genome g)) [
     | inl same ↦ (0, omega arith, sym ((one_list genome g).0 same))
@@ -133,7 +134,7 @@ module _ (one_list : OneList) where
 
   -- a genome that is among others is counted
   among-counted : (genomes : List (List Letter)) (genome : List Letter) → Contains genomes genome
-      → 0 < genome_count genomes genome
+      → 0 < count_by (same_letters genome) genomes
   among-counted genomes genome has =
       omega (
         arith,
@@ -154,7 +155,7 @@ module _ (one_list : OneList) where
     counted-is : (number : ℕ) (genotype : GenotypeCount)
         → genotype_at genotypes number ≡ Some genotype → genotype ≡ counted_in alive genotype.genome
     counted-is number genotype at =
-        let count : genotype.count ≡ genome_count alive genotype.genome =
+        let count : genotype.count ≡ count_by (same_letters genotype.genome) alive =
         ap count_in (sym at) ∙ kept.counted number genotype.genome (kept.named number genotype at)
         ∙ genome-in cells genotype.genome in
         λ i. record { genome = genotype.genome; count = count i }

@@ -17,7 +17,7 @@ use Rattle.world_rules.specs.Lives.{CellLife, life_of, life_at, slice_at, lives_
 use Rattle.world_rules.specs.Scene.{Scene, next_id, with_death, cells_from, with_newcomer}
 use Rattle.world_rules.specs.Update.{Delivery, delivery_of, births_by, births_in, births_of, deaths_of, after_lives, after_burials, placings_of, birth_link, child_of_birth, with_newborn, turns_of, after_births, after_what, after_event, events_at, after_events, last_scene, scene_of_lives, lives_after, next_scene, next_world, world_of}
 use Rattle.world_rules.specs.WorldRun.{world_after}
-use Rattle.world_rules.specs.Descent.{IsBelow, HasPlaceAsId, AreNumbered, AreAmong, IsNumberedWorld}
+use Rattle.world_rules.specs.Descent.{IsBelow, HasPlaceAsId, AreNumbered, IsNumberedWorld}
 
 -- a scene's ids are places
 abbrev IsNumberedScene : Scene → Type 0
@@ -155,7 +155,8 @@ among_life config count update cell steps None below = tt
 among_life config count update cell steps (Some o) below = below
 
 -- who stands in a cell, if somebody does, is one of so many
-slot_among : (count : ℕ) (cells : List (Option Occupant)) (cell : ℕ) → AreAmong count cells
+slot_among : (count : ℕ) (cells : List (Option Occupant)) (cell : ℕ)
+    → All (λ slot. IsBelow count (id_of slot)) cells
     → IsBelow count (id_of (slice_index_or cells cell None))
 slot_among count cells cell among = elim (cases_lt cell (length cells)) [
   | inl within ↦ among cell None within
@@ -164,7 +165,7 @@ slot_among count cells cell among = elim (cases_lt cell (length cells)) [
 
 -- who stands in the cells after their lives is one of so many
 lives_among : (config : ConfigValues) (count update : ℕ) (cells : List (Option Occupant))
-    → AreAmong count cells → All (λ l. IsBelow count (id_of l.occupant))
+    → All (λ slot. IsBelow count (id_of slot)) cells → All (λ l. IsBelow count (id_of l.occupant))
     (lives_of config update cells)
 unfolding lives_of
 lives_among config count update cells among =

@@ -2,7 +2,7 @@
 -- bore 7, the line of 7 is the links of 0, 3 and 7.
 use Rattle.std.specs.Prelude.{◌≡◌, ℕ, ◌<◌, All, List, [], ◌∷◌, ◌++◌, length, Option, None, Some, fold, option_map, slice_get, slice_index_or}
 use Rattle.lineage_log.specs.Links.{Link}
-use Rattle.world_rules.specs.World.{Occupant, World, id_of, id_at}
+use Rattle.world_rules.specs.World.{World, id_of, id_at}
 
 -- the line of a parent, by id; a founder has none
 abbrev pub line_of_parent : List (List Link) → Option ℕ → List Link
@@ -40,12 +40,7 @@ abbrev pub AreNumbered : List Link → Type 0
 AreNumbered everyone =
     (place : ℕ) (link : Link) → slice_get everyone place ≡ Some link → HasPlaceAsId place link
 
--- who stands in the cells is one of so many
-abbrev pub AreAmong : ℕ → List (Option Occupant) → Type 0
-AreAmong count cells = All (λ slot. IsBelow count (id_of slot)) cells
-
--- each organism ever in a world has its place as its id, its parent came before it, and who stands
--- in a cell is one of them
+-- organisms have their places as ids, parents come before children, and the living are among them
 pub record IsNumberedWorld (w : World) : Type 0 where
   pub everyone : AreNumbered w.everyone
-  pub standing : AreAmong (length w.everyone) w.cells
+  pub standing : All (λ slot. IsBelow (length w.everyone) (id_of slot)) w.cells

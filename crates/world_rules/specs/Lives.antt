@@ -1,7 +1,6 @@
--- The lives of an update, all from one start
--- (docs/WORLD.md, "Time slices" and "The life of one update"): each cell lives alone, whatever the
--- others do. For example, if only cell 1 of two cells has an organism, cell 0 has no_life, and the
--- life of cell 1 says what its organism became and bore.
+-- The lives of an update, all from one start (docs/WORLD.md, "Time slices" and "The life of one
+-- update"): each cell lives alone. For example, if only cell 1 of two cells has an organism, cell 0
+-- has no_life, and the life of cell 1 says what its organism became and bore.
 use Rattle.std.specs.Prelude.{ℕ, Bool, false, List, [], length, map, Option, None, Some, option_map, slice_index_or}
 use Rattle.std.specs.List.{range_with_len}
 use Rattle.random_streams.specs.declared.purpose.Purpose.TheVariants.{Run}
@@ -14,8 +13,7 @@ use Rattle.world_config.specs.Values.{ConfigValues}
 use Rattle.world_rules.specs.World.{Occupant}
 use Rattle.world_rules.specs.Settings.{settings_at}
 
--- what the life of a cell comes to: who stands there after the last step, whether it died of age,
--- and its newborns
+-- a cell's life: who stands there after the last step, whether it died of age, and its newborns
 pub record CellLife : Type 0 where
   pub occupant : Option Occupant
   pub died : Bool
@@ -47,8 +45,7 @@ abbrev pub cell_life : ℕ → OrganismLife → CellLife
 cell_life id l =
     record { occupant = with_id id l.organism; died = l.died; newborns = l.newborns }
 
--- the life of who stands in a cell, with the run stream of this cell and update, of at most so many
--- steps
+-- the life of who stands in a cell, with its run stream in this update, of at most so many steps
 unfoldable pub life_of : ConfigValues → ℕ → ℕ → ℕ → Option Occupant → CellLife
 life_of config update cell steps None = no_life
 life_of config update cell steps (Some o) =

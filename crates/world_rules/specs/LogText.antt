@@ -57,8 +57,7 @@ event_lines config scene =
     flat_map (λ lines. lines)
     (scan (after_event config) lines_of_event scene (events_at config scene.update))
 
--- the lines of an update, from the scene as these lives have ended: deaths of age, births, events,
--- and what is counted
+-- the lines of an update, from the scene as these lives have ended: deaths, births, events, counts
 unfoldable pub lines_of_lives : ConfigValues → Scene → List CellLife → List Line
 lines_of_lives config scene lives =
     let buried = after_burials scene lives in

@@ -1,7 +1,6 @@
--- The picture of a world, and its line (docs/WORLD.md, "Statistics", and
--- docs/FORMATS.md, "Watch lines"). For example, `W 12 3 2 291 2 mmmmmmmm` says that after update 12
--- three organisms live, with two different genomes and a sum of merits of 291, and that two of them
--- have the dominant genome.
+-- A world's picture, and its line (docs/WORLD.md, "Statistics"; docs/FORMATS.md, "Watch lines").
+-- For example, `W 12 3 2 291 2 mmmmmmmm` says that after update 12 three organisms live, with two
+-- genomes and a sum of merits of 291, and that two of them have the dominant genome.
 use Rattle.std.specs.Prelude.{ℕ, List, [], ◌∷◌, ◌++◌, Option, None, Some, codes, decimal}
 use Rattle.census.specs.Counts.{GenotypeCount}
 use Rattle.genome.specs.GenomeText.{letters_text_of}
@@ -10,8 +9,7 @@ use Rattle.world_config.specs.Values.{ConfigValues}
 use Rattle.world_rules.specs.Statistics.{stats_of, dominant_of}
 use Rattle.world_rules.specs.WorldRun.{world_after}
 
--- the update, the living, their genotypes, the sum of their merits, and the dominant genome with
--- its count
+-- the update, the living, their genotypes, their merits' sum, the dominant genome with its count
 pub record PictureValue : Type 0 where
   pub update : ℕ
   pub living : ℕ
@@ -34,15 +32,9 @@ abbrev pub dominant_words : Option GenotypeCount → List (List ℕ)
 dominant_words None = decimal 0 ∷ codes "-" ∷ []
 dominant_words (Some d) = decimal d.count ∷ letters_text_of d.genome ∷ []
 
--- the words of a picture's line
-abbrev pub picture_words : PictureValue → List (List ℕ)
-picture_words p =
-    decimal p.update
-    ∷ decimal p.living
-    ∷ decimal p.genotypes
-    ∷ decimal p.merit
-    ∷ dominant_words p.dominant
-
 -- the line of a picture
 unfoldable pub picture_text : PictureValue → List ℕ
-picture_text p = codes "W" ++ (words_text (picture_words p) ++ codes "\n")
+picture_text p =
+    codes "W" ++ (words_text
+    (decimal p.update ∷ decimal p.living ∷ decimal p.genotypes ∷ decimal p.merit
+    ∷ dominant_words p.dominant) ++ codes "\n")

@@ -8,8 +8,7 @@ use Rattle.organism.specs.OrganismState.{OrganismState}
 use Rattle.lineage_log.specs.Links.{Link}
 use Rattle.world_rules.specs.World.{Occupant, id_at}
 
--- the update, who stands in each cell, all organisms ever in the world by id, and the ids of those
--- that died in this update, in order
+-- the update, who stands in each cell, all organisms ever, by id, and the ids of the update's dead
 pub record Scene : Type 0 where
   pub update : ℕ
   pub cells : List (Option Occupant)

@@ -1,7 +1,7 @@
 -- What a configuration sets for an update (docs/WORLD.md, "Events" and "The life of one update").
 -- For example, if an event of update 5 sets copy_error to 0, the rate of the key holds up to update
 -- 5, and 0 from update 6 on.
-use Rattle.std.specs.Prelude.{ℕ, List, filter, fold, nat_lt}
+use Rattle.std.specs.Prelude.{ℕ, filter, fold, nat_lt}
 use Rattle.birth_board.specs.declared.placing_round.PlacingRound.{PlacingRound}
 use Rattle.birth_board.specs.Torus.{TorusNumbers}
 use Rattle.mutations.specs.declared.rate_name.RateName.{RateName}
@@ -29,13 +29,10 @@ rates_after_what rates _ = rates
 abbrev pub rates_after : RateNumbers → EventValue → RateNumbers
 rates_after rates event = rates_after_what rates event.what
 
--- the events of the updates before one
-abbrev pub events_before : ConfigValues → ℕ → List EventValue
-events_before config update = filter (λ event. nat_lt event.update update) config.event
-
 -- the rates that hold in an update: those at the keys, changed by the events before it in order
 unfoldable pub rates_at : ConfigValues → ℕ → RateNumbers
-rates_at config update = fold rates_after config.rates (events_before config update)
+rates_at config update =
+    fold rates_after config.rates (filter (λ event. nat_lt event.update update) config.event)
 
 -- what a life in an update needs to know of its world
 unfoldable pub settings_at : ConfigValues → ℕ → SettingNumbers

@@ -32,10 +32,6 @@ organisms_in cells = filter_map organism_in cells
 abbrev pub genomes_of_cells : List (Option Occupant) → List (List Letter)
 genomes_of_cells cells = map (λ o. o.genome) (organisms_in cells)
 
--- how many of some genomes are this one
-abbrev pub genome_count : List (List Letter) → List Letter → ℕ
-genome_count genomes genome = count_by (same_letters genome) genomes
-
 -- how many of the living have a task in their credited set
 abbrev pub credited_with : List (Option Occupant) → Task → ℕ
 credited_with cells task = count_by (λ o. has_task o.credited task) (organisms_in cells)
@@ -67,10 +63,10 @@ stats_of config (suc n) = next_stats config (world_after config n)
 
 -- a genome, and how many of these are the same
 abbrev pub counted_in : List (List Letter) → List Letter → GenotypeCount
-counted_in genomes genome = record { genome = genome; count = genome_count genomes genome }
+counted_in genomes genome =
+    record { genome = genome; count = count_by (same_letters genome) genomes }
 
--- the genome that most of the living in some cells have, and of equally frequent ones the least in
--- the order of letters, with its count
+-- the genome that most of the living have, and of equally frequent ones the least, with its count
 unfoldable pub dominant_of : List (Option Occupant) → Option GenotypeCount
 dominant_of cells =
     let genomes = genomes_of_cells cells in

@@ -8,7 +8,6 @@ use Rattle.logic_tasks.specs.TaskSet.{no_tasks}
 use Rattle.mutations.specs.BirthRecord.{BirthRecord}
 use Rattle.organism.specs.Newborns.{NewbornValue}
 use Rattle.organism.specs.OrganismState.{OrganismState}
-use Rattle.lineage_log.specs.Links.{Link}
 use Rattle.world_config.specs.Events.{EventValue, WhatValue}
 use Rattle.world_config.specs.Values.{ConfigValues}
 use Rattle.world_rules.specs.World.{founder_link}
@@ -56,10 +55,6 @@ tiny happening = record {
 abbrev pub once : WhatValue → List EventValue
 once what = record { update = 1; what = what } ∷ []
 
--- the founder in the list of all
-abbrev pub one_link : List Link
-one_link = founder_link 0 0 0 (eight NopA) ∷ []
-
 -- the life of the founder, with these newborns
 abbrev pub founder_life : OrganismState → Bool → List NewbornValue → List CellLife
 founder_life o died newborns =
@@ -69,9 +64,9 @@ founder_life o died newborns =
 abbrev pub barren : OrganismState → Bool → List CellLife
 barren o died = founder_life o died []
 
--- the scene of an update as that life has ended
-abbrev pub scene_after_life : ℕ → OrganismState → Bool → Scene
-scene_after_life update o died = after_lives update one_link (barren o died)
+-- the scene of an update as the life of the founder has ended
+abbrev pub scene_after_life : ℕ → List CellLife → Scene
+scene_after_life update lives = after_lives update (founder_link 0 0 0 (eight NopA) ∷ []) lives
 
 -- the record of a child that is as its parent
 abbrev pub unchanged_birth : BirthRecord
@@ -91,10 +86,6 @@ child nth merit =
 -- a life that ended by age, of an organism that bore two
 abbrev pub fertile : OrganismState → List CellLife
 fertile o = founder_life o true (child 0 8 ∷ child 1 16 ∷ [])
-
--- the scene of update 1 as that life has ended
-abbrev pub after_fertile : OrganismState → Scene
-after_fertile o = after_lives 1 one_link (fertile o)
 
 -- what is counted in one cell where no task is done
 abbrev pub counts : ℕ → ℕ → ℕ → ℕ → ℕ → ℕ → Line

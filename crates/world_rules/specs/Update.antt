@@ -1,7 +1,6 @@
--- One update: lives, burials, births, events
--- (docs/WORLD.md, "The end of an update", "Placing births" and "Events"). For example, if an
--- organism has borne a child and then died of age, first its cell is emptied, then the child is
--- placed, perhaps there, and then the events happen.
+-- One update: lives, burials, births, events (docs/WORLD.md, "The end of an update", "Placing
+-- births" and "Events"). For example, if an organism has borne a child and then died of age, first
+-- its cell is emptied, then the child is placed, perhaps there, and then the events happen.
 use Rattle.std.specs.Prelude.{ℕ, ◌+◌, ◌==◌, List, [], length, map, filter, fold, Option, None, Some, slice_index_or}
 use Rattle.std.specs.List.{range_with_len, flat_map, zip, enumerate_from}
 use Rattle.birth_board.specs.declared.placing.Placing.{Placing}

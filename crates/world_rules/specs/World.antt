@@ -16,9 +16,7 @@ pub record Occupant : Type 0 where
   pub id : ℕ
   pub organism : OrganismState
 
--- a world after an update: who stands in each cell, and all organisms ever in it, by id; the link
--- of each tells its parent, the update and the cell of its birth, its record of birth and its
--- genome then (lineage_log/specs/Links.antt)
+-- a world after an update: who stands in each cell, and the links of all organisms ever, by id
 pub record World : Type 0 where
   pub update : ℕ
   pub cells : List (Option Occupant)
@@ -44,8 +42,7 @@ founder_words seed cell nth =
     ∷ draw seed 0 cell Place (3 * nth + 2)
     ∷ []
 
--- a founder in a cell: the configuration's own is number 0, an injected one has its event's place
--- in the list, from 1
+-- a founder in a cell: the configuration's own has number 0, an injected one its event's, from 1
 unfoldable pub founder_of : ConfigValues → ℕ → ℕ → List Letter → OrganismState
 founder_of config cell nth letters =
     new_organism letters (inputs_of (founder_words config.seed cell nth)) (length letters) no_tasks

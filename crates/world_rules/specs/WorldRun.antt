@@ -1,6 +1,6 @@
 -- The world after so many updates, and who lives in it (docs/WORLD.md, "The log of a run"). For
 -- example, the world after 2 updates is next_world of next_world of first_world.
-use Rattle.std.specs.Prelude.{ℕ, zero, suc, List, Option, option_map}
+use Rattle.std.specs.Prelude.{ℕ, zero, suc, List, option_map}
 use Rattle.std.specs.List.{filter_map, enumerate_from}
 use Rattle.lineage_log.specs.Replay.{Resident}
 use Rattle.world_config.specs.Values.{ConfigValues}
@@ -16,11 +16,7 @@ world_after config (suc n) = next_world config (world_after config n)
 abbrev pub resident_of : ℕ → Occupant → Resident
 resident_of cell o = record { cell = cell; id = o.id; genome = o.organism.genome }
 
--- who stands in some cells, in their order
-abbrev pub residents_in : List (Option Occupant) → List Resident
-residents_in cells =
-    filter_map (λ place. option_map (resident_of place.0) place.1) (enumerate_from 0 cells)
-
 -- cell, id and genome of each occupied cell, in the order of the cells
 abbrev pub residents_of_world : World → List Resident
-residents_of_world w = residents_in w.cells
+residents_of_world w =
+    filter_map (λ place. option_map (resident_of place.0) place.1) (enumerate_from 0 w.cells)

@@ -13,7 +13,7 @@ ghost use Rattle.world_rules.specs.Lives.{slices_at};
 ghost use Rattle.world_rules.specs.LogText.{lines_of_lives, update_lines, log_text};
 ghost use Rattle.world_rules.specs.WorldRun.{world_after, residents_of_world};
 ghost use Rattle.world_rules.specs.Picture.{picture_of, picture_text};
-ghost use Rattle.world_rules.specs.TinyWorlds.{tiny, once, eight, scene_after_life, barren, unchanged_birth, fertile, after_fertile, counts};
+ghost use Rattle.world_rules.specs.TinyWorlds.{tiny, once, eight, scene_after_life, barren, unchanged_birth, fertile, counts};
 
 #[tactic(auto, unfolding(crate::specs::WorldRun::world_after))]
 pub fn the_first_world_is_the_founders()
@@ -33,14 +33,15 @@ pub fn the_founder_gets_all_steps()
 
 pub fn an_update_tells_its_events()
     ensures inject { (o : OrganismState)
-        → lines_of_lives (tiny (once (inject 0 (eight NopB)))) (scene_after_life 1 o false)
+        → lines_of_lives (tiny (once (inject 0 (eight NopB)))) (scene_after_life 1 (barren o false))
         (barren o false)
         ≡ Injected 1 1 0 (Some 0) (eight NopB) ∷ counts 1 1 0 1 1 8 ∷ [] }
     ensures clear { (o : OrganismState)
-        → lines_of_lives (tiny (once (clear 0 0))) (scene_after_life 1 o false) (barren o false)
+        → lines_of_lives (tiny (once (clear 0 0))) (scene_after_life 1 (barren o false))
+        (barren o false)
         ≡ Cleared 0 1 0 ∷ counts 1 0 0 1 0 0 ∷ [] }
     ensures death { (o : OrganismState)
-        → lines_of_lives (tiny []) (scene_after_life 4 o true) (barren o true)
+        → lines_of_lives (tiny []) (scene_after_life 4 (barren o true)) (barren o true)
         ≡ Death 0 4 0 ∷ counts 4 0 0 1 0 0 ∷ [] }
 {}
 
@@ -69,7 +70,8 @@ pub fn an_empty_world_goes_on()
 
 /// The first takes the cell of the dead parent, and the second that of the first.
 pub fn newborns_take_the_only_cell()
-    ensures { (o : OrganismState) → lines_of_lives (tiny []) (after_fertile o) (fertile o)
+    ensures { (o : OrganismState)
+        → lines_of_lives (tiny []) (scene_after_life 1 (fertile o)) (fertile o)
         ≡ Death 0 1 0 ∷ Birth 1 0 1 0 None unchanged_birth ∷ Birth 2 0 1 0 (Some 1) unchanged_birth
         ∷ counts 1 1 2 2 1 16 ∷ [] }
 {}

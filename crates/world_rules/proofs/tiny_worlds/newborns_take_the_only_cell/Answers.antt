@@ -7,20 +7,22 @@ use Rattle.world_rules.specs.LogText.{death_lines, birth_line, event_lines, line
 use Rattle.world_rules.specs.Scene.{Scene, with_death, with_newcomer}
 use Rattle.world_rules.specs.Statistics.{stats_in, scene_stats}
 use Rattle.world_rules.specs.Update.{deaths_of, after_burials, births_of, placings_of, with_newborn, after_births, events_at, after_event, after_events, last_scene}
-use Rattle.world_rules.specs.TinyWorlds.{tiny, fertile, after_fertile}
+use Rattle.world_rules.specs.TinyWorlds.{tiny, fertile, scene_after_life}
 use Rattle.world_rules.proofs.TinyPlacings.{two_placed}
 use Rattle.world_rules.proofs.tiny_worlds.newborns_take_the_only_cell.Goals as goal
 
 -- the scene with the newborns in these places
 abbrev born : OrganismState → List Placing → Scene
-born o placings = fold (with_newborn (tiny [])) (after_burials (after_fertile o) (fertile o))
+born o placings = fold (with_newborn (tiny []))
+    (after_burials (scene_after_life 1 (fertile o)) (fertile o))
     (zip (births_of (fertile o)) placings)
 
 -- the lines with them
 abbrev lines_with : OrganismState → List Placing → List Line
 lines_with o placings =
-    death_lines (after_fertile o) (deaths_of (fertile o))
-    ++ scan (with_newborn (tiny [])) birth_line (after_burials (after_fertile o) (fertile o))
+    death_lines (scene_after_life 1 (fertile o)) (deaths_of (fertile o))
+    ++ scan (with_newborn (tiny [])) birth_line
+    (after_burials (scene_after_life 1 (fertile o)) (fertile o))
     (zip (births_of (fertile o)) placings)
     ++ event_lines (tiny []) (born o placings)
     ++ Count (scene_stats (after_events (tiny []) (born o placings)) 2) ∷ []
