@@ -11,7 +11,7 @@ use Rattle.world_config.specs.Events.{EventValue, WhatValue, inject, clear, rate
 use Rattle.world_config.specs.KeyTable.{Frame}
 use Rattle.world_config.specs.Shown.{values_of}
 use Rattle.world_config.specs.Values.{ConfigValues}
-use Rattle.world_laws.specs.Bounds.{IsConfig, size_of, FitsWhat, FitsEvent}
+use Rattle.world_laws.specs.Bounds.{IsConfig, size_of, FitsWhat}
 
 -- the frame of a configuration's events
 abbrev frame : ConfigValues → Frame
@@ -34,7 +34,7 @@ what_within config some (rate name ppm) h = leb-true _ _ h
 -- events that fit the frame fit the configuration
 events_within : (config : ConfigValues) → 1 ≤ size_of config → (events : List EventValue)
     → AllByRecursion (λ event. event_fits (frame config) event ≡ true) events
-    → AllByRecursion (FitsEvent config) events
+    → AllByRecursion (λ event. FitsWhat config event.what) events
 events_within config some [] h = tt
 events_within config some (event ∷ events) h =
     (what_within config some event.what (and_parts _ _ h.0).1, events_within config some events h.1)

@@ -10,7 +10,7 @@ use Rattle.genome.specs.Genome.{IsGenome}
 use Rattle.world_config.specs.Events.{EventValue}
 use Rattle.world_config.specs.Values.{ConfigValues}
 use Rattle.world_rules.specs.Update.{events_at}
-use Rattle.world_laws.specs.Bounds.{FitsEvent, FitsWhat, IsConfig, size_of}
+use Rattle.world_laws.specs.Bounds.{FitsWhat, IsConfig, size_of}
 use Rattle.world_laws.proofs.Placements.{all_filtered}
 
 -- the same of an event with its place in the list
@@ -19,7 +19,7 @@ FitsPlaced config event = FitsWhat config event.1.what
 
 -- events that fit still do with their places in the list
 all_placed : (config : ConfigValues) (from : ℕ) (events : List EventValue)
-    → AllByRecursion (FitsEvent config) events
+    → AllByRecursion (λ event. FitsWhat config event.what) events
     → AllByRecursion (FitsPlaced config) (enumerate_from from events)
 all_placed config from [] fit = tt
 all_placed config from (event ∷ events) fit = (fit.0, all_placed config (from + 1) events fit.1)

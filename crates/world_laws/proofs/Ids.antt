@@ -16,7 +16,7 @@ use Rattle.world_rules.specs.LogText.{birth_line, birth_lines, death_lines, even
 use Rattle.world_rules.specs.Descent.{IsNumberedWorld}
 use Rattle.world_rules.specs.WorldRun.{world_after}
 use Rattle.world_laws.specs.LowerLaws.{LifeLaws}
-use Rattle.world_laws.specs.Ranges.{GivesSmallId, HasSmallId}
+use Rattle.world_laws.specs.Ranges.{GivesSmallId}
 use Rattle.world_laws.proofs.LeavingLines.{leaving_lines}
 use Rattle.world_laws.proofs.Mirror.{People}
 use Rattle.world_laws.proofs.Placements.{all_append}
@@ -114,7 +114,7 @@ module _ (laws : LifeLaws) (config : ConfigValues) (fit : IsConfig config) where
   module _ (n : ℕ) (early : n ≤ 4294967295) where
     -- all who ever were in a world
     pub people_are_few : IsNumberedWorld (world_after config n)
-        → All HasSmallId (world_after config n).everyone
+        → All (λ link. link.id < 2 ^ 58) (world_after config n).everyone
     people_are_few numbered place d low =
         let everyone = (world_after config n).everyone in
         let has = numbered.everyone place _ (slice_get-get_or everyone place d low) in

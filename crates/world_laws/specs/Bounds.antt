@@ -2,7 +2,7 @@
 use Rattle.std.specs.Prelude.{ℕ, ◌*◌, ◌<◌, ◌≤◌, length}
 use Rattle.std.specs.List.{AllByRecursion}
 use Rattle.divide_rules.specs.Rules.{AreRules}
-use Rattle.world_config.specs.Events.{EventValue, WhatValue, inject, clear, rate}
+use Rattle.world_config.specs.Events.{WhatValue, inject, clear, rate}
 use Rattle.world_config.specs.Values.{ConfigValues}
 
 -- the number of cells
@@ -15,10 +15,6 @@ FitsWhat config (inject cell letters) = (cell < size_of config)
     × (config.rules.least ≤ length letters) × (length letters ≤ config.rules.greatest)
 FitsWhat config (clear first last) = last < size_of config
 FitsWhat config (rate name ppm) = ppm ≤ 1000000
-
--- what an event does fits
-abbrev pub FitsEvent : ConfigValues → EventValue → Type 0
-FitsEvent config event = FitsWhat config event.what
 
 -- values within the bounds of their keys
 pub record IsConfig (config : ConfigValues) : Type 0 where
@@ -35,4 +31,4 @@ pub record IsConfig (config : ConfigValues) : Type 0 where
   pub long_enough : config.rules.least ≤ length config.ancestor
   pub short_enough : length config.ancestor ≤ config.rules.greatest
   pub few_events : length config.event ≤ 1000
-  pub events : AllByRecursion (FitsEvent config) config.event
+  pub events : AllByRecursion (λ event. FitsWhat config event.what) config.event

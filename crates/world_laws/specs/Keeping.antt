@@ -21,8 +21,7 @@ AreSound cells =
     → slice_get cells cell ≡ Some (Some o)
     → IsSoundOrganism o.organism
 
--- whoever stands in a world lives through the update after it as a sound organism of its genome,
--- with few newborns, which the rules allow
+-- the living go on through an update sound, with their genomes, and with few newborns, all allowed
 abbrev pub LiveOn : ConfigValues → World → Type 0
 LiveOn config w =
     (cell steps : ℕ) (o : Occupant)

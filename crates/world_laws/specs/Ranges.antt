@@ -1,15 +1,13 @@
 -- In which ranges the organisms and the ids of a run stay (docs/WORLD.md, "Saved worlds").
 use Rattle.std.specs.Prelude.{◌≡◌, ℕ, ◌+◌, ◌*◌, ◌^◌, ◌<◌, ◌≤◌, true, List, Option, Some, length, slice_get}
 use Rattle.log_lines.specs.Line.{Line, Birth, Injected}
-use Rattle.lineage_log.specs.Links.{Link}
 use Rattle.logic_tasks.specs.Inputs.{HasTopBytes}
 use Rattle.organism.specs.OrganismState.{OrganismState}
 use Rattle.world_config.specs.Values.{ConfigValues}
 use Rattle.world_rules.specs.World.{Occupant, World}
 use Rattle.world_laws.specs.Keeping.{AreSound}
 
--- an organism younger than this has a genome of an allowed length, an age below that of death, the
--- memory limit of its world, sets of nine tasks, and inputs with the top bytes
+-- an organism younger than this, with an allowed length, the world's memory limit, nine-task sets
 pub record IsInRange (config : ConfigValues) (ages : ℕ) (o : OrganismState) : Type 0 where
   pub least : config.rules.least ≤ length o.genome
   pub greatest : length o.genome ≤ config.rules.greatest
@@ -39,8 +37,7 @@ pub record HasFewIds (config : ConfigValues) (updates : ℕ) (w : World) : Type 
   pub few : length w.everyone ≤ 1 + 65537000 * updates
   pub own : HaveOwnIds w.cells (length w.everyone)
 
--- all cells are there, and who stand in them are sound, younger than this and in range, each with
--- its own id
+-- all cells are there, and who stand in them are sound, younger than this, in range, with own ids
 pub record StandInRange (config : ConfigValues) (ages : ℕ) (w : World) : Type 0 where
   pub cells : length w.cells ≡ config.width * config.height
   pub sound : AreSound w.cells
@@ -56,11 +53,7 @@ pub record StayInRange (config : ConfigValues) (ages : ℕ) (w next : World) : T
   pub grown : length w.everyone ≤ length next.everyone
   pub few : length next.everyone ≤ length w.everyone + 65537000
 
--- somebody with an id below 2^58
-abbrev pub HasSmallId : Link → Type 0
-HasSmallId link = link.id < 2 ^ 58
-
--- a line of a birth or an injection gives such an id
+-- a line of a birth or an injection gives an id below 2 ^ 58
 abbrev pub GivesSmallId : Line → Type 0
 GivesSmallId (Birth id parent update cell over birth) = id < 2 ^ 58
 GivesSmallId (Injected id update cell over genome) = id < 2 ^ 58

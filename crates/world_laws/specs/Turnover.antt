@@ -18,9 +18,8 @@ HasBeen cells first end id = IsStanding cells id ⊎ ((first ≤ id) × (id < en
 abbrev pub HasGone : List ℕ → ℕ → Type 0
 HasGone gone id = (place : ℕ) × (slice_get gone place ≡ Some id)
 
--- in an update from these cells, in which ids are given after those of all organisms before: who
--- stands or died stood at its begin or came, all others stand or died, nobody died twice or died
--- and stands, and the parents of those who came stood there
+-- who stands or died was there or came, and the reverse; nobody dies twice or stands dead; and the
+-- parents of those who came stood in these cells as the update began
 pub record IsTurnover (cells : List (Option Occupant)) (before : List Link) (scene : Scene) : Type 0
   where
     pub grown : length before ≤ length scene.everyone

@@ -1,5 +1,5 @@
 // Laws of every run (docs/WORLD.md, "Time slices", "The log of a run" and "Lines of descent").
-ghost use Rattle.std.specs.Prelude.{◌≡◌, ℕ, ◌+◌, ◌*◌, ◌≤◌, ◌^◌, All, IfSome, List, Some, map, slice_get, sum};
+ghost use Rattle.std.specs.Prelude.{◌≡◌, ℕ, ◌+◌, ◌*◌, ◌≤◌, ◌^◌, All, IfSome, List, Some, map, slice_get, sum, ◌<◌};
 ghost use Rattle.log_lines.specs.Line.{Line};
 ghost use Rattle.lineage_log.specs.LogGrammar.{Reads};
 ghost use Rattle.organism.specs.Lived.{IsSoundOrganism};
@@ -16,7 +16,7 @@ ghost use Rattle.world_rules.specs.World.{Occupant, World};
 ghost use Rattle.world_rules.specs.WorldRun.{world_after};
 ghost use Rattle.world_laws.specs.Keeping.{AreSound, HasKept, LiveOn};
 ghost use Rattle.world_laws.specs.LowerLaws.{LifeLaws, LineLaws};
-ghost use Rattle.world_laws.specs.Ranges.{GivesSmallId, HasFewIds, HasSmallId, IsInRange, StandInRange, StayInRange};
+ghost use Rattle.world_laws.specs.Ranges.{GivesSmallId, HasFewIds, IsInRange, StandInRange, StayInRange};
 ghost use Rattle.world_laws.specs.Bounds.{IsConfig};
 ghost use Rattle.world_laws.specs.Heredity.{AreDescended, IsDescent, IsLastOfLine};
 ghost use Rattle.world_laws.specs.Turnover.{IsTurnover};
@@ -143,7 +143,8 @@ pub fn ranges_are_kept()
 /// Each organism that is born or injected in a run has an id below 2^58: among all that were ever
 /// in its world, and in each birth and injection of its log.
 pub fn ids_are_few(config: &Config, updates: u32)
-    ensures everyone { All HasSmallId (world_after (values_of config.now) updates).everyone }
+    ensures everyone { All (λ link. link.id < 2 ^ 58)
+        (world_after (values_of config.now) updates).everyone }
     ensures log { (lines : List Line)
         → Reads (log_text (values_of config.now) updates) lines
         → All GivesSmallId lines }
