@@ -15,7 +15,7 @@ use Rattle.world_rules.specs.Update.{next_world, world_of}
 use Rattle.world_rules.specs.WorldRun.{world_after}
 use Rattle.world_rules.specs.World.{World}
 use Rattle.world_laws.specs.Turnover.{HasBeen, IsStanding, IsTurnover}
-use Rattle.world_tree.specs.Growing.{HasBuried, HasEntered}
+use Rattle.world_tree.specs.Growing.{HasBuried}
 use Rattle.world_tree.specs.WorldTrees.{scene_after}
 use Rattle.world_tree.proofs.NumberLemmas.{get_taken, link_at, numbered_front, older_of, standing_low, take_next}
 
@@ -57,6 +57,14 @@ kept_all : (P : Link → Type 0) (everyone : List Link) (living : List ℕ) → 
 unfolding kept_of
 kept_all P everyone living all =
     All-filter (λ (link : Link). is_kept everyone living link.id) P everyone all
+
+-- so many of those that came have entered, and nobody has died
+pub record HasEntered (w : World) (scene : Scene) (count : ℕ) (tree : TreeValue) : Type 0 where
+  pub links : tree.links ≡ kept_of (take (length w.everyone + count) scene.everyone) tree.living
+  pub living : (id : ℕ) → Contains tree.living id
+      → HasBeen w.cells (length w.everyone) (length w.everyone + count) id
+  pub each : (id : ℕ) → HasBeen w.cells (length w.everyone) (length w.everyone + count) id
+      → Contains tree.living id
 
 module _ (laws : KeepingLaws) {w : World} {scene : Scene} (is : IsUpdate w scene) where
   -- the first id of those that come

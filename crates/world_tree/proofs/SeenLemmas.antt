@@ -11,7 +11,7 @@ use Rattle.world_rules.specs.Descent.{AreNumbered, IsBelow, IsNumberedWorld, des
 use Rattle.world_rules.specs.World.{Occupant, World, empty_cells, first_occupant, first_world, founder_link, id_of}
 use Rattle.world_rules.specs.WorldRun.{world_after}
 use Rattle.world_laws.specs.Turnover.{IsStanding}
-use Rattle.world_tree.specs.WorldTrees.{IsTreeOf, living_and_ancestors, standing_ids}
+use Rattle.world_tree.specs.WorldTrees.{IsTreeOf, living_and_ancestors}
 use Rattle.world_tree.proofs.NumberLemmas.{contains_more, link_at, older_of, standing_low}
 use Rattle.world_tree.proofs.EnterLemmas.{KeepingLaws}
 
@@ -166,7 +166,7 @@ pub links_are : (same : (everyone : List Link) (living others : List ℕ)
     → kept_of everyone living ≡ kept_of everyone others) (w : World) (t : TreeValue) → IsTreeOf w t
     → t.links ≡ living_and_ancestors w
 links_are same w t of = of.links
-    ∙ same w.everyone t.living (standing_ids w)
+    ∙ same w.everyone t.living (filter_map id_of w.cells)
     (λ id. (
       λ lives. let stands = of.living id lives in
           stand_ids w.cells id stands.0 stands.1 stands.2 stands.3,

@@ -1,18 +1,10 @@
 -- A tree on its way from one world to the next.
-use Rattle.std.specs.Prelude.{◌≡◌, ℕ, ◌+◌, ◌<◌, Contains, Some, length, slice_get, take}
+use Rattle.std.specs.Prelude.{◌≡◌, ℕ, ◌<◌, Contains, Some, length, slice_get}
 use Rattle.lineage_log.specs.Ancestry.{kept_of}
 use Rattle.lineage_log.specs.Trees.{TreeValue}
 use Rattle.world_rules.specs.Scene.{Scene}
 use Rattle.world_rules.specs.World.{World}
 use Rattle.world_laws.specs.Turnover.{HasBeen}
-
--- so many of those that came have entered, and nobody has died
-pub record HasEntered (w : World) (scene : Scene) (count : ℕ) (tree : TreeValue) : Type 0 where
-  pub links : tree.links ≡ kept_of (take (length w.everyone + count) scene.everyone) tree.living
-  pub living : (id : ℕ) → Contains tree.living id
-      → HasBeen w.cells (length w.everyone) (length w.everyone + count) id
-  pub each : (id : ℕ) → HasBeen w.cells (length w.everyone) (length w.everyone + count) id
-      → Contains tree.living id
 
 -- nobody with this id is among the first so many that died
 abbrev pub IsLeft : Scene → ℕ → ℕ → Type 0

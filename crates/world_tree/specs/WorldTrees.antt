@@ -10,20 +10,15 @@ use Rattle.world_rules.specs.World.{World, id_of}
 use Rattle.world_rules.specs.WorldRun.{world_after}
 use Rattle.world_laws.specs.Turnover.{IsStanding}
 
--- the living are those that stand in a cell, and the links are those of the living and their
--- ancestors among all organisms ever
+-- the living stand in the cells, and the links are those of the living and their ancestors
 pub record IsTreeOf (w : World) (tree : TreeValue) : Type 0 where
   pub links : tree.links ≡ kept_of w.everyone tree.living
   pub living : (id : ℕ) → Contains tree.living id → IsStanding w.cells id
   pub standing : (id : ℕ) → IsStanding w.cells id → Contains tree.living id
 
--- the ids of those that stand, in the order of cells
-abbrev pub standing_ids : World → List ℕ
-standing_ids w = filter_map id_of w.cells
-
 -- the links of those that stand and of their ancestors
 abbrev pub living_and_ancestors : World → List Link
-living_and_ancestors w = kept_of w.everyone (standing_ids w)
+living_and_ancestors w = kept_of w.everyone (filter_map id_of w.cells)
 
 -- the scene at the end of the update after so many
 abbrev pub scene_after : ConfigValues → ℕ → Scene

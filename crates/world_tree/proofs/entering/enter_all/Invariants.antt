@@ -1,9 +1,9 @@
 use Rattle.std.proofs.Common.{length}
 use Rattle.world_config.specs.Shown.{values_of}
 use Rattle.world_rules.specs.WorldRun.{world_after}
-use Rattle.world_tree.specs.Growing.{HasEntered}
 use Rattle.world_tree.specs.WorldTrees.{scene_after}
 use Rattle.world_tree.proofs.entering.enter_all.Given as goal
+use Rattle.world_tree.proofs.EnterLemmas.{HasEntered}
 
 -- those so far have entered
 abbrev pub invariant-loop-newcomer : goal.invariant-loop-newcomer
