@@ -40,7 +40,6 @@ module _ (config : ConfigValues) where
   all_live (suc d) a s t h e =
       let within : a < length t.world.cells = omega arith in
       let t1 = state_after_event config t (Run a) in
-      let one = goes_one config Any t (Run a) (record
-      { is_cell = within; has_no_result = h.idle a (omega arith) }) tt in
+      let one = goes_one config Any t (Run a) (within, h.idle a (omega arith)) tt in
       let rest = all_live d (a + 1) s t1 (lived_next a s t within h) (omega arith) in
       (rest.0, goes_on config Any t t1 rest.0 0 0 one rest.1, rest.2)

@@ -8,9 +8,9 @@ use Rattle.instruction_set.specs.declared.letter.Letter.{Letter}
 use Rattle.world_config.specs.Values.{ConfigValues}
 use Rattle.world_rules.specs.World.{World}
 use Rattle.world_rules.specs.Update.{scene_of_lives, world_of}
-use Rattle.event_orders.specs.declared.schedule.ScheduleEvent.TheVariants.{Intern}
+use Rattle.event_orders.specs.declared.schedule.ScheduleEvent.TheVariants.{Gather, Intern}
 use Rattle.event_orders.specs.State.{State, genome_entry, life_in, newborn_genomes, result_of, results_of, injections_at}
-use Rattle.event_orders.specs.Schedule.{MayIntern, MayGather, with_value_at, with_update, state_after_event}
+use Rattle.event_orders.specs.Schedule.{IsLawful, MayGather, with_value_at, state_after_event}
 use Rattle.event_orders.proofs.Everyone.{genomes_ever, genomes_next, births_are}
 use Rattle.event_orders.proofs.Going.{at_either}
 use Rattle.event_orders.proofs.Results.{lives_in, born_in, AreLives, results_are_lives, newborn_is_birth, birth_is_newborn}
@@ -59,13 +59,14 @@ module _ (config : ConfigValues) where
       (λ n h. Contains-append_left known _ _ (had c k h))
 
   -- a newborn was interned, and the bank is as it was to be
-  pub intern_banked : (s : State) (seat cell nth : ℕ) → MayIntern s cell nth
+  pub intern_banked : (s : State) (seat cell nth : ℕ)
+      → IsLawful config s (Intern seat cell nth)
       → AreLives config s.world s.results → IsBanked config s.world s.interned s.history
       → IsBanked config s.world (state_after_event config s (Intern seat cell nth)).interned
       (state_after_event config s (Intern seat cell nth)).history
   intern_banked s seat cell nth may are h =
       let w = s.world in
-      let is = are cell may.has_result in
+      let is = are cell may.0 in
       let g0 = slice_index_or (newborn_genomes (life_in config w cell)) nth [] in
       let more : genomes_of (s.history ++ genome_entry seat
       (slice_index_or (newborn_genomes (result_of s cell)) nth []) ∷ []) ≡ genomes_of s.history
@@ -77,7 +78,7 @@ module _ (config : ConfigValues) where
         only = λ g k. elim (Contains-push_cases (genomes_of s.history) g0 g (rw more at k)) [
           | inl l ↦ h.only g l
           | inr e ↦ inr
-              (rw e at (newborn_is_birth config w cell nth is.0 (rw is.1 at may.is_newborn)))
+              (rw e at (newborn_is_birth config w cell nth is.0 (rw is.1 at may.1)))
         ];
       }
 
@@ -97,15 +98,15 @@ module _ (config : ConfigValues) where
   -- at the end of an update the bank has exactly those that were ever in the world
   pub gather_members : (s : State) (seat : ℕ) → MayGather s → AreLives config s.world s.results
       → IsBanked config s.world s.interned s.history → (g : List Letter)
-      → Contains (genomes_of (with_update config s seat).history) g ↔ Contains
-      (genomes_ever (with_update config s seat).world.everyone) g
+      → Contains (genomes_of (state_after_event config s (Gather seat)).history) g
+      ↔ Contains (genomes_ever (state_after_event config s (Gather seat)).world.everyone) g
   gather_members s seat may are h g =
       let w = s.world in
       let known = genomes_of s.history in
       let added = injections_at config (w.update + 1) in
       let born = born_in config w in
-      let ever : genomes_ever (with_update config s seat).world.everyone ≡ genomes_ever w.everyone
-      ++ (born ++ added) = ever_gathered s may are in
+      let ever : genomes_ever (state_after_event config s (Gather seat)).world.everyone
+      ≡ genomes_ever w.everyone ++ (born ++ added) = ever_gathered s may are in
       let more : genomes_of (s.history ++ map (genome_entry seat) added) ≡ known ++ added =
       filter_map-append (λ (one : Entry). interned_genome one.call) s.history
       (map (genome_entry seat) added) ∙ ap (λ l. known ++ l)
@@ -120,7 +121,8 @@ module _ (config : ConfigValues) where
               | inr i ↦ Contains-append_right (genomes_ever w.everyone) _ g
                   (Contains-append_right born added g i)
             ])),
-        (λ (k : Contains (genomes_ever (with_update config s seat).world.everyone) g). rw more
+        (λ (k : Contains (genomes_ever
+            (state_after_event config s (Gather seat)).world.everyone) g). rw more
             (elim (Contains-append_cases (genomes_ever w.everyone) (born ++ added) g
             (rw ever at k)) [
               | inl o ↦ Contains-append_left known added g (h.old g o)

@@ -15,7 +15,7 @@ use Rattle.world_rules.specs.WorldRun.{world_after}
 use Rattle.event_orders.specs.declared.schedule.ScheduleEvent.{ScheduleEvent}
 use Rattle.event_orders.specs.declared.schedule.ScheduleEvent.TheVariants.{Run, Intern, Gather, Publish, Look, Hear}
 use Rattle.event_orders.specs.State.{State, opening}
-use Rattle.event_orders.specs.Schedule.{MayGather, IsLawful, with_update, with_seen, state_after_event, state_after, IsSchedule}
+use Rattle.event_orders.specs.Schedule.{MayGather, IsLawful, with_seen, state_after_event, state_after, IsSchedule}
 use Rattle.event_orders.specs.Orders.{is_gather, ShowsEachUpdate}
 use Rattle.event_orders.proofs.Everyone.{genomes_ever}
 use Rattle.event_orders.proofs.Results.{lives_in, AreLives, result_kept, results_are_lives}
@@ -73,7 +73,7 @@ module _ (config : ConfigValues) where
 
   -- an update has ended
   gather_kept : (n : ℕ) (s : State) (seat : ℕ) → MayGather s → HoldsAt config n s
-      → HoldsAt config (n + 1) (with_update config s seat)
+      → HoldsAt config (n + 1) (state_after_event config s (Gather seat))
   gather_kept n s seat may h = record {
     world =
         rw (results_are_lives config s h.results may.every_cell, next_is s.world, h.world)
@@ -107,7 +107,7 @@ module _ (config : ConfigValues) where
   kept n s (Run cell) may h =
       rw add-zero (record {
         world = h.world;
-        results = result_kept config s.world s.results cell may.is_cell h.results;
+        results = result_kept config s.world s.results cell may.0 h.results;
         bank = h.bank;
         pictures = h.pictures;
       })

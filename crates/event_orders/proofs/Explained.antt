@@ -80,7 +80,7 @@ module _ (config : ConfigValues) where
           ps (λ f. rw f others) (λ n. sym (elsewhere j n) ∙ own_is j)) in (
             go.0,
             goes_on config Any s s1 go.0 0 0 (goes_one config Any s (Intern x.seat p.0 p.1)
-                (record { has_result = v.0; is_newborn = v.1; is_new = v.2 }) tt) go.1,
+                v tt) go.1,
             history_next s go.0 (genome_entry x.seat (newborn s p)) x calls go.2 first,
             go.3,
           )

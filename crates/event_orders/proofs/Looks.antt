@@ -55,5 +55,5 @@ module _ (config : ConfigValues) (events : List ScheduleEvent) where
       ∙ at_same s.seen observer observer (max (s.seen observer) i) refl in
       let place : m + 1 + (n - (m + 1)) ≡ n = omega arith in
       let rest = rw place at (seen_later (m + 1) (n - (m + 1)) observer (omega arith)) in
-      let bound : seen_at n observer ≤ j = may.is_not_older in
+      let bound : seen_at n observer ≤ j = may.1 in
       omega arith

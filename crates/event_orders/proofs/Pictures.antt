@@ -4,9 +4,10 @@ use Rattle.std.proofs.lemmas.Option.{slice_get-get_or}
 use Rattle.world_config.specs.Values.{ConfigValues}
 use Rattle.world_rules.specs.Picture.{PictureValue, picture_of}
 use Rattle.event_orders.specs.State.{State}
-use Rattle.event_orders.specs.Schedule.{MayPublish}
+use Rattle.event_orders.specs.Schedule.{IsLawful}
 use Rattle.event_orders.specs.Orders.{ShowsEachUpdate}
 use Rattle.event_orders.proofs.Members.{get_last}
+use Rattle.event_orders.specs.declared.schedule.ScheduleEvent.TheVariants.{Publish}
 
 -- what holds of the pictures
 pub record AreShown (config : ConfigValues) (pictures : List PictureValue) : Type 0 where
@@ -39,7 +40,7 @@ module _ (config : ConfigValues) where
   }
 
   -- the next picture has the number of pictures so far as its number
-  pub next_number : (s : State) → MayPublish config s → AreShown config s.pictures
+  pub next_number : (s : State) → IsLawful config s Publish → AreShown config s.pictures
       → s.world.update ≡ length s.pictures
   next_number s may h =
       let end = length s.pictures - 1 in

@@ -13,7 +13,7 @@ use Rattle.world_rules.specs.Picture.{PictureValue, picture_of}
 use Rattle.event_orders.specs.declared.schedule.ScheduleEvent.{ScheduleEvent}
 use Rattle.event_orders.specs.declared.schedule.ScheduleEvent.TheVariants.{Run, Intern, Gather, Publish, Look, Hear}
 use Rattle.event_orders.specs.State.{State, opening, life_in, newborn_genomes, result_of, results_of}
-use Rattle.event_orders.specs.Schedule.{MayPublish, MayLook, with_value_at, state_after_event}
+use Rattle.event_orders.specs.Schedule.{IsLawful, with_value_at, state_after_event}
 use Rattle.event_orders.specs.Orders.{IsScheduleFor}
 use Rattle.event_orders.proofs.Members.{last_pushed}
 use Rattle.event_orders.proofs.Everyone.{update_after, update_next}
@@ -107,11 +107,7 @@ module _ (config : ConfigValues) (seat_of : ℕ → ℕ) where
   )
   interns (suc d) a m s h e =
       let one = goes_one config (IsOfSeat seat_of) s (Intern (seat_of a) a m)
-      (record {
-        has_result = h.ran a (omega arith);
-        is_newborn = omega arith;
-        is_new = h.rest m (omega arith);
-      }) refl in
+      (h.ran a (omega arith), omega arith, h.rest m (omega arith)) refl in
       let rest = interns d a (m + 1) (state_after_event config s (Intern (seat_of a) a m))
       (interned_next (seat_of a) a m s h) (omega arith) in (
         rest.0,
@@ -144,7 +140,7 @@ module _ (config : ConfigValues) (seat_of : ℕ → ℕ) where
   lives (suc d) a s h e =
       let s1 = state_after_event config s (Run a) in
       let one = goes_one config (IsOfSeat seat_of) s (Run a)
-      (record { is_cell = omega arith; has_no_result = h.idle a (omega arith) }) tt in
+      (omega arith, h.idle a (omega arith)) tt in
       let all = interns (born s1 a) a 0 s1 (ran_next a s h) (zero-add (born s1 a)) in
       let cells : length all.0.world.cells ≡ length s.world.cells =
       ap (λ w. length w.cells) all.3.world in
@@ -207,7 +203,7 @@ module _ (config : ConfigValues) (seat_of : ℕ → ℕ) where
     ended_update = update_next config s.world (results_of s) ∙ ap (λ u. u + 1) shown.update
 
     -- its picture may be published
-    may_publish : MayPublish config ended
+    may_publish : IsLawful config ended Publish
     may_publish = record {
       rises =
           λ last at. picture_update config ended.world.update ∙ ended_update
@@ -216,17 +212,17 @@ module _ (config : ConfigValues) (seat_of : ℕ → ℕ) where
     }
 
     -- the first observer may look at it
-    may_look : MayLook published 0 (n + 1)
-    may_look = record {
-      is_published =
+    may_look : IsLawful config published (Look 0 (n + 1))
+    may_look =
+        let seen = shown.seen in (
           rw (
             map-append (λ (p : PictureValue). p.update) s.pictures
                 (picture_of config ended.world.update ∷ []),
             picture_update config ended.world.update,
             ended_update,
-          ) (Contains-push (map (λ (p : PictureValue). p.update) s.pictures) (n + 1));
-      is_not_older = let seen = shown.seen in omega (arith, seen);
-    }
+          ) (Contains-push (map (λ (p : PictureValue). p.update) s.pictures) (n + 1)),
+          omega (arith, seen),
+        )
 
     -- these three events lead there, and end one update
     update_ends : Leads s 1 looked

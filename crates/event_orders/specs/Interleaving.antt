@@ -19,8 +19,7 @@ abbrev pub newborns_for : ConfigValues → World → (ℕ → ℕ) → ℕ → �
 newborns_for config w seat_of seat cell =
     if seat_of cell == seat then newborn_genomes (life_in config w cell) else []
 
--- each seat interns the newborns of its own cells, in order of cell and birth; how the calls of
--- different seats stand among each other is free
+-- each seat interns its own cells' newborns, by cell and birth; the order of seats is free
 abbrev pub IsInterleaving : ConfigValues → World → (ℕ → ℕ) → List Entry → Type 0
 IsInterleaving config w seat_of calls =
     (seat : ℕ)

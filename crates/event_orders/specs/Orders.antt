@@ -34,8 +34,7 @@ LooksNeverFall events =
     → slice_get events later ≡ Some (Look observer other)
     → number ≤ other
 
--- a schedule of so many updates, in which the newborns of each cell are interned by the seat of the
--- cell, each picture is published, and the first observer has seen the last one
+-- so many updates; each cell's seat interns, each picture is published, observer 0 saw the last one
 pub record IsScheduleFor (config : ConfigValues) (updates : ℕ) (seat_of : ℕ → ℕ)
     (events : List ScheduleEvent) : Type 0 where
   pub lawful : IsSchedule config events

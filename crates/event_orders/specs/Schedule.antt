@@ -9,17 +9,6 @@ use Rattle.event_orders.specs.declared.schedule.ScheduleEvent.{ScheduleEvent}
 use Rattle.event_orders.specs.declared.schedule.ScheduleEvent.TheVariants.{Run, Intern, Gather, Publish, Look, Hear}
 use Rattle.event_orders.specs.State.{State, genome_entry, opening, life_in, newborn_genomes, result_of, results_of, injections_at}
 
--- a cell may live that hasn't lived yet
-pub record MayRun (s : State) (cell : ℕ) : Type 0 where
-  pub is_cell : cell < length s.world.cells
-  pub has_no_result : IsNone (s.results cell)
-
--- a newborn of a result may be interned that isn't yet
-pub record MayIntern (s : State) (cell nth : ℕ) : Type 0 where
-  pub has_result : IsSome (s.results cell)
-  pub is_newborn : nth < length (newborn_genomes (result_of s cell))
-  pub is_new : s.interned cell nth ≡ false
-
 -- an update may end once each cell has lived and each newborn is interned
 pub record MayGather (s : State) : Type 0 where
   pub every_cell : (cell : ℕ) → cell < length s.world.cells → IsSome (s.results cell)
@@ -27,55 +16,26 @@ pub record MayGather (s : State) : Type 0 where
       → cell < length s.world.cells → nth < length (newborn_genomes (result_of s cell))
       → s.interned cell nth ≡ true
 
--- the picture of the world may follow those published
-abbrev pub MayPublish : ConfigValues → State → Type 0
-MayPublish config s =
-    MayFollow (λ picture. picture.update) (λ picture. config) s.pictures
-    (picture_of config s.world.update)
-
 -- a picture with this number was published
 abbrev pub IsPublished : State → ℕ → Type 0
 IsPublished s number = Contains (map (λ picture. picture.update) s.pictures) number
 
--- an observer may look at a published picture that is not older than what it saw or heard of
-pub record MayLook (s : State) (observer number : ℕ) : Type 0 where
-  pub is_published : IsPublished s number
-  pub is_not_older : s.seen observer ≤ number
-
--- the event may happen next
+-- the event may happen next: a cell lives once, a newborn is interned once, no look is older
 abbrev pub IsLawful : ConfigValues → State → ScheduleEvent → Type 0
-IsLawful config s (Run cell) = MayRun s cell
-IsLawful config s (Intern seat cell nth) = MayIntern s cell nth
+IsLawful config s (Run cell) = (cell < length s.world.cells) × IsNone (s.results cell)
+IsLawful config s (Intern seat cell nth) =
+    IsSome (s.results cell) × (nth < length (newborn_genomes (result_of s cell)))
+    × (s.interned cell nth ≡ false)
 IsLawful config s (Gather seat) = MayGather s
-IsLawful config s Publish = MayPublish config s
-IsLawful config s (Look observer number) = MayLook s observer number
+IsLawful config s Publish =
+    MayFollow (λ picture. picture.update) (λ picture. config) s.pictures
+    (picture_of config s.world.update)
+IsLawful config s (Look observer number) = IsPublished s number × (s.seen observer ≤ number)
 IsLawful config s (Hear observer number) = IsPublished s number
 
 -- the function with another value at one place
 abbrev pub with_value_at : {X : Type 0} → (ℕ → X) → ℕ → X → ℕ → X
 with_value_at values place value other = if other == place then value else values other
-
--- a cell has lived
-abbrev pub with_result : ConfigValues → State → ℕ → State
-with_result config s cell =
-    record s { results = with_value_at s.results cell (Some (life_in config s.world cell)) }
-
--- a seat has interned a newborn of a cell
-abbrev pub with_interned : State → ℕ → ℕ → ℕ → State
-with_interned s seat cell nth = record s {
-  interned = with_value_at s.interned cell (with_value_at (s.interned cell) nth true);
-  history = s.history
-      ++ genome_entry seat (slice_index_or (newborn_genomes (result_of s cell)) nth []) ∷ [];
-}
-
--- the update has ended over the results, and a seat has interned the genomes that its events inject
-abbrev pub with_update : ConfigValues → State → ℕ → State
-with_update config s seat = record s {
-  world = world_of (scene_of_lives config s.world (results_of s));
-  results = λ cell. None;
-  interned = λ cell nth. false;
-  history = s.history ++ map (genome_entry seat) (injections_at config (s.world.update + 1));
-}
 
 -- an observer has seen this number, or heard of it
 abbrev pub with_seen : State → ℕ → ℕ → State
@@ -84,9 +44,19 @@ with_seen s observer number =
 
 -- the run after the event
 abbrev pub state_after_event : ConfigValues → State → ScheduleEvent → State
-state_after_event config s (Run cell) = with_result config s cell
-state_after_event config s (Intern seat cell nth) = with_interned s seat cell nth
-state_after_event config s (Gather seat) = with_update config s seat
+state_after_event config s (Run cell) =
+    record s { results = with_value_at s.results cell (Some (life_in config s.world cell)) }
+state_after_event config s (Intern seat cell nth) = record s {
+  interned = with_value_at s.interned cell (with_value_at (s.interned cell) nth true);
+  history = s.history
+      ++ genome_entry seat (slice_index_or (newborn_genomes (result_of s cell)) nth []) ∷ [];
+}
+state_after_event config s (Gather seat) = record s {
+  world = world_of (scene_of_lives config s.world (results_of s));
+  results = λ cell. None;
+  interned = λ cell nth. false;
+  history = s.history ++ map (genome_entry seat) (injections_at config (s.world.update + 1));
+}
 state_after_event config s Publish =
     record s { pictures = s.pictures ++ picture_of config s.world.update ∷ [] }
 state_after_event config s (Look observer number) = with_seen s observer number

@@ -5,7 +5,7 @@ use Rattle.genotype_bank.specs.declared.view.Call.TheVariants.{Interned}
 use Rattle.genotype_bank.specs.declared.view.Entry.{Entry}
 use Rattle.genotype_bank.specs.BankHistory.{entry}
 use Rattle.instruction_set.specs.declared.letter.Letter.{Letter}
-use Rattle.world_config.specs.Events.{WhatValue, inject, clear, rate}
+use Rattle.world_config.specs.Events.{WhatValue, inject}
 use Rattle.world_config.specs.Values.{ConfigValues}
 use Rattle.world_rules.specs.World.{World}
 use Rattle.world_rules.specs.Lives.{CellLife, no_life, life_at}
@@ -62,8 +62,7 @@ results_of s = map (result_of s) (range_with_len 0 (length s.world.cells))
 -- the genome that an event injects
 abbrev pub injected_by : WhatValue → Option (List Letter)
 injected_by (inject cell letters) = Some letters
-injected_by (clear first last) = None
-injected_by (rate name ppm) = None
+injected_by _ = None
 
 -- the genomes that the events of an update inject, in order
 abbrev pub injections_at : ConfigValues → ℕ → List (List Letter)
