@@ -60,10 +60,7 @@ module _ (config : ConfigValues) (update : ℕ) (cells : List (Option Occupant))
       let bounded : IsBoundedIn update (Some o) =
       subst (IsBoundedIn update) here (sound cell None within) in
       record {
-        cell = record {
-          age = omega (arith, lived.age, bounded.age, few cell);
-          merit = lived.sound.merit;
-        };
+        cell = (omega (arith, lived.age, bounded.0, few cell), lived.sound.merit);
         genome = ap Some lived.genome;
         few = lived.few;
         newborns = All-weaker (IsBornOf o.organism.genome settings.rules) (FitsMachine config)

@@ -11,7 +11,7 @@ pub AreBounded_put : (update : ℕ) (cells : List (Option Occupant)) (cell : ℕ
     → AreBounded update (set cells cell (Some o))
 AreBounded_put update cells cell o young fits sound =
     All-set (IsBoundedIn update) cells cell (Some o)
-    (record { age = omega (arith, young); merit = fits }) sound
+    (omega (arith, young), fits) sound
 
 -- so are cells in which nobody stands
 pub AreBounded_none : (update count : ℕ) → AreBounded update (replicate count None)

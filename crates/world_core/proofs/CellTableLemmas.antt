@@ -14,7 +14,7 @@ use Rattle.world_rules.specs.Statistics.{organism_in}
 use Rattle.world_rules.specs.World.{Occupant}
 use Rattle.world_core.specs.CellTables.{AreKeptBeside, occupants_of}
 use Rattle.world_core.specs.Population.{merit_or_zero}
-use Rattle.world_core.specs.Resumed.{IsResident}
+use Rattle.world_core.specs.Resumed.{IsResidentIn}
 use Rattle.world_core.specs.declared.cell_table.CellTable.TheInside.{Inside}
 use Rattle.world_core.proofs.SumLemmas.{map-replicate}
 
@@ -177,8 +177,6 @@ nobody (Some o) is = absurd cc
 pub resident_is : (cell id : ℕ) (o : OrganismState) (resident : Resident) → resident.cell ≡ cell
     → resident.id ≡ id → organism_of_image resident.image o.machine.limit ≡ o
     → resident.image.cpu ≡ image_of o.machine
-    → IsResident cell (record { id = id; organism = o }) resident
-resident_is cell id o resident at named is machine = record {
-  values = λ i. values_in (at i) (record { id = named i; organism = is i });
-  machine = machine;
-}
+    → IsResidentIn cell (Some (record { id = id; organism = o })) (Some resident)
+resident_is cell id o resident at named is machine =
+    (λ i. values_in (at i) (record { id = named i; organism = is i }), machine)

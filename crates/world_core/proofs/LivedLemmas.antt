@@ -42,7 +42,7 @@ young-are update (o ∷ os) (id ∷ ids) long early sound =
   where
     by : (o : Option OrganismState) → IsBoundedIn update (with_id id o) → IsYoung o
     by None is = tt
-    by (Some o) is = omega (arith, is.age, early)
+    by (Some o) is = omega (arith, is.0, early)
 
 -- nor have they too great merits
 pub merits-fit : (os : List (Option OrganismState)) (ids : List ℕ)

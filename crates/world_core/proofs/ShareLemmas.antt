@@ -4,7 +4,7 @@ use Rattle.std.proofs.Math.Nat.{div-eq_of_lt, eq-or-lt_of_le, max-eq_left}
 use Rattle.std.proofs.lemmas.List.{length-take-le, take-take}
 use Rattle.cell_shards.specs.Shards.{first_cell}
 use Rattle.cell_shards.specs.declared.job.Job.{Job}
-use Rattle.world_core.specs.Sharding.{FollowShares, StartsAtShare, load_before, load_of, share_before}
+use Rattle.world_core.specs.Sharding.{FollowShares, load_before, load_of, share_before}
 use Rattle.world_core.proofs.CutLemmas.{jobs-push}
 
 -- where there is no load, a load of 1 has the same shares
@@ -43,11 +43,11 @@ module _ (workers : ℕ) (slices : List ℕ) (jobs : List Job) (shard : ℕ) (lo
       λ n few. ap (take n) started.left ∙ take-take n (length loads) all few in
       let ends : job.first < length slices → share shard < load_before slices (job.first + 1) =
       λ more. by_place (eq-or-lt_of_le within) more in
-      let starts : StartsAtShare workers slices shard job.first =
-      record { from = omega (arith, from, ap sum (shorter job.first within)); to = ends } in
+      let starts : load_before slices job.first ≤ share shard =
+      omega (arith, from, ap sum (shorter job.first within)) in
       let ordered : reverse next ≡ job ∷ reverse jobs = ap reverse next_is ∙ jobs-push jobs job in
       record {
-        behind = rw (ordered, ← shard_is) (starts, started.behind);
+        behind = rw (ordered, ← shard_is) (starts, ends, started.behind);
         left = fewer_is ∙ shorter job.first within ∙ ap (λ n. take n all) (sym size);
         to = rw (size, ← shard_is) ends;
       }

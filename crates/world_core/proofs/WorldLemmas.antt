@@ -13,9 +13,9 @@ use Rattle.world_rules.specs.Update.{next_scene, next_world, world_of}
 use Rattle.world_rules.specs.WorldRun.{world_after}
 use Rattle.world_rules.specs.Statistics.{next_stats, stats_of}
 use Rattle.world_rules.specs.LogText.{update_lines, update_text}
-use Rattle.world_tree.specs.WorldTrees.{IsTreeOf}
+use Rattle.world_tree.specs.WorldTrees.{IsTreeOf, newcomers_of, scene_after}
 use Rattle.world_core.specs.Endings.{IsNext}
-use Rattle.world_core.specs.LateTrees.{IsBehind, IsLateTreeOf, IsLeftBehind}
+use Rattle.world_core.specs.LateTrees.{IsLateTreeOf, IsLeftBehind}
 use Rattle.world_core.specs.Scenes.{SceneValue, scene_in}
 use Rattle.world_core.specs.declared.late_tree.LateTree.{LateTree}
 use Rattle.world_core.specs.declared.late_tree.LateTree.TheVariants.{Behind, Grown}
@@ -106,17 +106,18 @@ pub is_behind : (config : ConfigValues) (before after : SceneValue) (old stats :
     → IsWorldOf config before old → IsNext config before after stats
     → IsTreeOf (world_after config before.update) tree
     → newcomers ≡ drop after.first after.everyone → gone ≡ after.gone
-    → IsBehind config after.update tree newcomers gone
+    → (1 ≤ after.update) × IsTreeOf (world_after config (after.update - 1)) tree
+    × (newcomers ≡ newcomers_of config (after.update - 1))
+    × (gone ≡ (scene_after config (after.update - 1)).gone)
 is_behind config before after old stats tree newcomers gone was is tree_is came died =
     let early : before.update ≡ after.update - 1 = omega (arith, is.update) in
     let scene = scene_after_is config before after old stats was is in
-    let first = is.first ∙ was.settled ∙ ap (λ (w : World). length w.everyone) was.world in
-    record {
-      some = omega (arith, is.update);
-      tree_is = rw (← early) tree_is;
-      came = rw (← early, came) (λ i. drop (first i) (scene i).everyone);
-      died = rw (← early, died) (ap (λ (s : Scene). s.gone) scene);
-    }
+    let first = is.first ∙ was.settled ∙ ap (λ (w : World). length w.everyone) was.world in (
+      omega (arith, is.update),
+      rw (← early) tree_is,
+      rw (← early, came) (λ i. drop (first i) (scene i).everyone),
+      rw (← early, died) (ap (λ (s : Scene). s.gone) scene),
+    )
 
 -- the tree that grew in the update is one update behind the scene at its end
 pub is_late : {E : Type 0} (config : ConfigValues) (before after : SceneValue) (old stats : Stats)

@@ -8,23 +8,17 @@ use Rattle.world_config.specs.Values.{ConfigValues}
 use Rattle.world_rules.specs.World.{Occupant}
 use Rattle.world_rules.specs.Update.{Delivery}
 
--- an organism after so many updates has no greater age and merit; one of a saved world begins with
--- an age
-pub record IsBounded (update : ℕ) (o : OrganismState) : Type 0 where
-  pub age : o.age < 2 ^ 48 + 2 ^ 27 * update
-  pub merit : o.merit ≤ 2 ^ 38
-
--- so has who stands in a cell
+-- after so many updates who stands in a cell has no greater age and merit, from a saved age on
 abbrev pub IsBoundedIn : ℕ → Option Occupant → Type 0
 IsBoundedIn update None = Unit {0}
-IsBoundedIn update (Some o) = IsBounded update o.organism
+IsBoundedIn update (Some o) =
+    (o.organism.age < 2 ^ 48 + 2 ^ 27 * update) × (o.organism.merit ≤ 2 ^ 38)
 
 -- so has who stands in each cell
 abbrev pub AreBounded : ℕ → List (Option Occupant) → Type 0
 AreBounded update cells = All (IsBoundedIn update) cells
 
--- an organism can come into a cell in any update: its genome has this number in the bank, and its age
--- and its merit are not too great
+-- an organism can come in any update: its genome has this number, its age and merit are low enough
 pub record CanStand (bank : List (List Letter)) (number : ℕ) (o : OrganismState) : Type 0 where
   pub genome : slice_get bank number ≡ Some o.genome
   pub age : o.age < 2 ^ 48

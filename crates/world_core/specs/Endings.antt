@@ -32,8 +32,8 @@ last_lines config scene dead births stats =
     ++ event_lines config (with_births config scene dead births)
     ++ Count stats ∷ []
 
--- a scene as all lives have ended, with these dead and newborns, comes to another one as the events
--- have happened; a bank that took in the newborns then grows as the list of all does
+-- a scene after all lives, with these dead and newborns, comes to the one after all events; a bank
+-- that took in the newborns then grows as the list of all does
 pub record Ends (config : ConfigValues) (dead : List Departure) (births : List Birth)
     (before after : SceneValue) (stats : Stats) : Type 0 where
   pub scene : scene_in after

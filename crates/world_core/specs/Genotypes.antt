@@ -16,8 +16,7 @@ genomes_ever everyone = map (λ link. link.genome) everyone
 abbrev pub HasNumber : List (List Letter) → Delivered → Type 0
 HasNumber bank d = slice_get bank d.handle.number ≡ Some (genome_in d)
 
--- a bank has taken in the genomes of these newborns: all numbers stay, each genome stands once, and
--- each newborn has its number
+-- a bank has these newborns' genomes: numbers stay, each genome stands once, each has its number
 pub record TakesIn (old new : List (List Letter)) (births : List Delivered) : Type 0 where
   pub stays : IsPrefix old new
   pub each : HasEachOnce new (old ++ map genome_in births)

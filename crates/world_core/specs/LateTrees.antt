@@ -1,6 +1,5 @@
 -- A tree that may be one update behind its world (docs/ARCHITECTURE.md, "The tree grows late").
-use Rattle.std.specs.Prelude.{◌≡◌, ℕ, ◌-◌, ◌≤◌, List, Result, Ok, drop}
-use Rattle.lineage_log.specs.Links.{Link}
+use Rattle.std.specs.Prelude.{◌≡◌, ℕ, ◌-◌, ◌≤◌, Result, Ok, drop}
 use Rattle.lineage_log.specs.Trees.{TreeValue}
 use Rattle.world_config.specs.Values.{ConfigValues}
 use Rattle.world_core.specs.Scenes.{SceneValue}
@@ -9,22 +8,15 @@ use Rattle.world_core.specs.declared.late_tree.LateTree.TheVariants.{Behind, Gro
 use Rattle.world_rules.specs.WorldRun.{world_after}
 use Rattle.world_tree.specs.WorldTrees.{IsTreeOf, newcomers_of, scene_after}
 
--- the tree is that of the world one update before, and these came and these died in the last update
-pub record IsBehind (config : ConfigValues) (update : ℕ) (tree : TreeValue)
-    (newcomers : List Link) (gone : List ℕ) : Type 0 where
-  pub some : 1 ≤ update
-  pub tree_is : IsTreeOf (world_after config (update - 1)) tree
-  pub came : newcomers ≡ newcomers_of config (update - 1)
-  pub died : gone ≡ (scene_after config (update - 1)).gone
-
--- the tree is that of the world after so many updates, or it is one update behind
+-- the tree after so many updates, or one update behind, with those who came and died in the last
 abbrev pub IsLateTreeOf : ConfigValues → ℕ → LateTree → Type 0
 IsLateTreeOf config update (Grown tree) = IsTreeOf (world_after config update) tree
 IsLateTreeOf config update (Behind tree newcomers gone) =
-    IsBehind config update tree newcomers.items gone.items
+    (1 ≤ update) × IsTreeOf (world_after config (update - 1)) tree
+    × (newcomers.items ≡ newcomers_of config (update - 1))
+    × (gone.items ≡ (scene_after config (update - 1)).gone)
 
--- a tree that has grown is one update behind this scene, with who came since the scene was settled
--- and who died in its update
+-- a grown tree is one update behind this scene, with who came since it was settled, and who died
 abbrev pub IsLeftBehind : {E : Type 0} → Result TreeValue E → SceneValue → LateTree → Type 0
 IsLeftBehind grown scene (Grown tree) = ⊥
 IsLeftBehind grown scene (Behind tree newcomers gone) =

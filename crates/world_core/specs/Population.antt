@@ -42,8 +42,7 @@ abbrev pub is_credited : Task → Option Occupant → Bool
 is_credited task None = false
 is_credited task (Some o) = has_task o.organism.credited task
 
--- under the number of each genome is counted in how many cells it stands, and the key of a cell is
--- the number of its genome
+-- under a genome's number is counted in how many cells it stands, and a cell's key is that number
 pub record AreCountedIn (standing : List (Option (List Letter))) (genomes : List (List Letter))
     (keys : List ℕ) (genotypes : List (ℕ × GenotypeCount)) : Type 0 where
   pub size : length keys ≡ length standing
@@ -58,8 +57,7 @@ pub record AreCountedIn (standing : List (Option (List Letter))) (genomes : List
       → count_under genotypes number ≡ count_by (is_genome genome) standing
   pub living : living_of genotypes ≡ count_by is_some standing
 
--- these are the sum of the merits in the cells, and for each task how many have it; a world has no
--- more cells and no greater merits
+-- the sum of the merits, and for each task how many have it; cells and merits are bounded
 pub record AreSummedIn (cells : List (Option Occupant)) (merit : ℕ) (tasks : List ℕ) : Type 0 where
   pub few : length cells ≤ 65536
   pub fits : All (λ slot. merit_in slot ≤ 2 ^ 38) cells
@@ -91,8 +89,7 @@ IsRenewed before after was now =
     (after ≡ with_renewal before was.merit was.credited now.merit now.credited)
     ⊎ ((after ≡ before) × (now.merit ≡ was.merit) × (now.credited ≡ was.credited))
 
--- who stood in a cell is counted as who stands there now: nobody, or the same organism after its
--- life
+-- who stood in a cell is counted as who stands there now: nobody, or the same one after its life
 abbrev pub CountsChange : Counts → Counts → ℕ → Option Standing → Option Standing → Type 0
 CountsChange before after key None now = after ≡ before
 CountsChange before after key (Some was) None = HasOneFewer before after key was.merit was.credited

@@ -27,14 +27,11 @@ pub record KeepsPast (before after : SceneValue) : Type 0 where
   pub everyone : after.everyone ≡ before.everyone
   pub first : after.first ≡ before.first
 
--- a resident has the values of who stands in a cell
-pub record IsResident (cell : ℕ) (o : Occupant) (resident : Resident) : Type 0 where
-  pub values : organism_values resident ≡ values_in cell o
-  pub machine : resident.image.cpu ≡ image_of o.organism.machine
-
--- so it has where somebody stands; there is none exactly where nobody does
+-- a resident has the values of who stands in a cell; there is none exactly where nobody stands
 abbrev pub IsResidentIn : ℕ → Option Occupant → Option Resident → Type 0
 IsResidentIn cell None None = Unit {0}
 IsResidentIn cell None (Some resident) = ⊥
 IsResidentIn cell (Some o) None = ⊥
-IsResidentIn cell (Some o) (Some resident) = IsResident cell o resident
+IsResidentIn cell (Some o) (Some resident) =
+    (organism_values resident ≡ values_in cell o)
+    × (resident.image.cpu ≡ image_of o.organism.machine)

@@ -9,8 +9,7 @@ use Rattle.world_rules.specs.Scene.{Scene}
 use Rattle.world_rules.specs.World.{Occupant, id_at}
 use Rattle.world_core.specs.Genotypes.{genomes_ever}
 
--- a scene, how many organisms there were as it began, and the genomes of the bank, each at the
--- place that is its number
+-- a scene, how many organisms there were as it began, and the bank's genomes, each at its number
 pub record SceneValue : Type 0 where
   pub update : ℕ
   pub cells : List (Option Occupant)

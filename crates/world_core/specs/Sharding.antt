@@ -10,8 +10,7 @@ use Rattle.cell_shards.specs.Shards.{first_cell}
 use Rattle.genotype_bank.specs.Seats.{SeatValue, own_calls_of}
 use Rattle.organism.specs.OrganismState.{OrganismState}
 
--- how much work the life in a cell is, in steps: it begins with a random stream, which takes as
--- long as some 16 steps
+-- how much work a life is, in steps: it begins with a random stream, which takes as long as some 16
 abbrev pub load_of : ℕ → ℕ
 load_of zero = 0
 load_of (suc steps) = suc steps + 16
@@ -34,8 +33,7 @@ pub record PartCells (jobs : List Job) (cells : List (Option OrganismState))
 abbrev pub load_before : List ℕ → ℕ → ℕ
 load_before slices cell = sum (take cell (map load_of slices))
 
--- into how many shards the cells are cut: for one worker into one, and else into so many that who
--- ends first can take another
+-- into how many shards the cells are cut: one for one worker, else so many that who ends takes more
 abbrev pub shards_for : ℕ → ℕ
 shards_for workers = if nat_eq workers 1 then 1 else max 32 workers
 
@@ -43,17 +41,14 @@ shards_for workers = if nat_eq workers 1 then 1 else max 32 workers
 abbrev pub share_before : ℕ → List ℕ → ℕ → ℕ
 share_before shards slices shard = first_cell (sum (map load_of slices)) shards shard
 
--- a shard begins at the last cell before which there is no more load than that
-pub record StartsAtShare (shards : ℕ) (slices : List ℕ) (shard cell : ℕ) : Type 0 where
-  pub from : load_before slices cell ≤ share_before shards slices shard
-  pub to : cell < length slices
-      → share_before shards slices shard < load_before slices (cell + 1)
-
--- these jobs are the shards from this one to the last, and start at their shares
+-- the shards from this one to the last, each of which starts at the last cell within its share
 abbrev pub FollowShares : ℕ → List ℕ → ℕ → List Job → Type 0
 FollowShares shards slices shard [] = shard ≡ shards
 FollowShares shards slices shard (job ∷ jobs) =
-    StartsAtShare shards slices shard job.first × FollowShares shards slices (shard + 1) jobs
+    (load_before slices job.first ≤ share_before shards slices shard)
+    × (job.first < length slices
+    → share_before shards slices shard < load_before slices (job.first + 1))
+    × FollowShares shards slices (shard + 1) jobs
 
 -- as many jobs as shards, each but the first of which starts at its share
 abbrev pub ShareLoad : ℕ → List ℕ → List Job → Type 0
@@ -74,8 +69,7 @@ ShareSeat seat [] = ⊥
 ShareSeat seat (job ∷ jobs) =
     (job.seat ≡ seat_without seat (length jobs)) × All (λ other. other.seat ≡ seat_from seat) jobs
 
--- shards joined behind a first one: cells, what is counted of them, newborns and dead in order, and
--- one seat of all
+-- shards joined behind a first one: cells, counts, newborns and dead in order, and one seat of all
 pub record IsJoined (first : Finished) (others : List Finished) (whole : Finished) : Type 0 where
   pub cells : whole.cells ≡ first.cells ++ flat_map (λ one. one.cells) others
   pub standings : whole.standings ≡ first.standings ++ flat_map (λ one. one.standings) others

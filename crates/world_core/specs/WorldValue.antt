@@ -1,5 +1,5 @@
 -- A world, as contracts see it (docs/WORLD.md, "The end of an update").
-use Rattle.std.specs.Prelude.{◌≡◌, ℕ, ◌+◌, ◌*◌, ◌≤◌, ◌^◌, Option, None, List, length, option_map, slice_index_or}
+use Rattle.std.specs.Prelude.{◌≡◌, ℕ, ◌+◌, ◌*◌, ◌≤◌, ◌^◌, List, length}
 use Rattle.instruction_set.specs.declared.letter.Letter.{Letter}
 use Rattle.log_lines.specs.declared.stats.Stats.{Stats}
 use Rattle.world_config.specs.Values.{ConfigValues}
@@ -11,8 +11,7 @@ use Rattle.world_rules.specs.WorldRun.{world_after}
 use Rattle.world_core.specs.Genotypes.{genomes_ever}
 use Rattle.world_core.specs.Scenes.{SceneValue, scene_in}
 
--- the world of a configuration after so many updates, and the genomes of its bank, each at the
--- place that is its number
+-- a configuration's world after so many updates, and the genomes of its bank, each at its number
 pub record WorldValue : Type 0 where
   pub config : ConfigValues
   pub update : ℕ
@@ -22,12 +21,7 @@ pub record WorldValue : Type 0 where
 abbrev pub world_in : WorldValue → World
 world_in v = world_after v.config v.update
 
--- the genome of who stands in a cell
-abbrev pub genome_in_cell : World → ℕ → Option (List Letter)
-genome_in_cell w cell = option_map (λ o. o.organism.genome) (slice_index_or w.cells cell None)
-
--- the scene and its statistics are those of the world of this configuration after the scene's
--- updates, and the scene is settled
+-- the scene and its statistics are those of this configuration's world, and the scene is settled
 pub record IsWorldOf (config : ConfigValues) (scene : SceneValue) (stats : Stats) : Type 0 where
   pub world : world_of (scene_in scene) ≡ world_after config scene.update
   pub counts : stats ≡ stats_of config scene.update

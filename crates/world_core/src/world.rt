@@ -1,5 +1,5 @@
 // A world.
-ghost use Rattle.std.specs.Prelude.{◌≡◌, ◌+◌, ◌*◌, ◌<◌, ◌≤◌, IfOk, Some, length, option_map, slice_get};
+ghost use Rattle.std.specs.Prelude.{◌≡◌, ◌+◌, ◌*◌, ◌<◌, ◌≤◌, IfOk, Some, length, option_map, slice_get, None, slice_index_or};
 ghost use mathlib.Core.List.{IsPrefix};
 ghost use Rattle.genome.specs.Genome.{letters};
 ghost use Rattle.genotype_bank.specs.BankHistory.{HasEachOnce};
@@ -12,7 +12,8 @@ ghost use Rattle.world_rules.specs.LogText.{head_text, update_text, end_text};
 ghost use Rattle.world_rules.specs.Statistics.{stats_of};
 ghost use Rattle.world_tree.specs.WorldTrees.{living_and_ancestors};
 ghost use Rattle.world_core.specs.Genotypes.{genomes_ever};
-ghost use Rattle.world_core.specs.WorldValue.{WorldValue, world_in, genome_in_cell};
+ghost use Rattle.world_core.specs.WorldValue.{WorldValue, world_in};
+ghost use Rattle.world_core.specs.Population.{occupant_genome};
 
 use crate::first_tree::first_tree;
 use crate::founding::first_scene;
@@ -230,7 +231,7 @@ impl World {
     pub fn genome_at(&self, cell: u32) -> Option<&Genome>
         requires { cell < self.now.config.width * self.now.config.height }
         ensures { option_map (λ genome. letters genome.now) result
-            ≡ genome_in_cell (world_in self.now) cell }
+            ≡ occupant_genome (slice_index_or (world_in self.now).cells cell None) }
     {
         self.scene.cells.cells().genome_at(cell as usize)
     }
@@ -240,7 +241,8 @@ impl World {
     pub fn handle_at(&self, cell: u32) -> Option<u64>
         requires { cell < self.now.config.width * self.now.config.height }
         ensures { option_map (λ number. slice_get self.now.bank number) result
-            ≡ option_map (λ genome. Some genome) (genome_in_cell (world_in self.now) cell) }
+            ≡ option_map (λ genome. Some genome)
+            (occupant_genome (slice_index_or (world_in self.now).cells cell None)) }
     {
         self.scene.cells.number_at(cell)
     }

@@ -4,7 +4,7 @@ use Rattle.instruction_set.specs.declared.letter.Letter.{Letter}
 use Rattle.world_rules.specs.World.{Occupant, World}
 use Rattle.world_core.specs.declared.world.World.TheInside.{Inside}
 use Rattle.world_core.specs.Population.{occupant_genome}
-use Rattle.world_core.specs.WorldValue.{WorldValue, genome_in_cell, world_in}
+use Rattle.world_core.specs.WorldValue.{WorldValue, world_in}
 use Rattle.world_core.proofs.world.World.handle_at.Goals as goal
 
 pub returns : goal.returns
@@ -18,4 +18,5 @@ returns c =
     ∙ c.number_at.ensures
     ∙ ap (λ (cells : List (Option Occupant)). option_map (λ genome. Some genome)
     (occupant_genome (get_or cells c.args.cell None))) cells
-    ∙ ap (λ (w : World). option_map (λ genome. Some genome) (genome_in_cell w c.args.cell)) world
+    ∙ ap (λ (w : World). option_map (λ genome. Some genome)
+    (occupant_genome (get_or w.cells c.args.cell None))) world
