@@ -1,5 +1,5 @@
 -- Templates packed into a number.
-use Rattle.std.proofs.Common.{◌≡◌, inl, inr, ◌∙◌, sym, ap, refl, ℕ, zero, suc, ◌+◌, ◌-◌, ◌*◌, ◌/◌, ◌%◌, ◌^◌, ◌<◌, ◌≤◌, List, [], ◌∷◌, ◌++◌, Bool, true, false, cond, length, get_or, take, drop, reverse, arith, eq-eqb, pow-add}
+use Rattle.std.proofs.Common.{◌≡◌, inl, inr, ◌∙◌, sym, ap, refl, ℕ, zero, suc, ◌+◌, ◌-◌, ◌*◌, ◌/◌, ◌%◌, ◌^◌, ◌<◌, ◌≤◌, List, [], ◌∷◌, ◌++◌, true, false, length, get_or, take, drop, reverse, arith, eq-eqb, pow-add}
 use Rattle.std.specs.Prelude.{◌==◌}
 use Rattle.std.specs.Bool.{Decides}
 use Rattle.std.proofs.lemmas.Bool.{cases_Bool}
@@ -10,7 +10,7 @@ use Rattle.std.proofs.Math.Seq.{drop-append_seam}
 use Rattle.std.proofs.Math.Nat.{div-div-eq-div-mul}
 use Rattle.instruction_set.specs.declared.letter.Letter.{Letter}
 use Rattle.instruction_set.specs.declared.letter.Letter.TheVariants.{NopA, NopB, NopC}
-use Rattle.label_search.specs.Template.{IsTemplate, is_nop, last_ten, nops_read}
+use Rattle.label_search.specs.Template.{IsTemplate, is_nop, nops_read}
 use Rattle.label_search.specs.PackedTemplate.{digit_of_nop, nop_of, newest_first, packed_of, packed_after}
 
 -- each letter is a nop
@@ -47,12 +47,10 @@ nop_of-digit _ nop = absurd cc
 pub newest-nops : (most packed : ℕ) → AreNops (newest_first most packed)
 unfolding newest_first
 newest-nops zero packed = tt
-newest-nops (suc most) packed = go (packed == 0) (newest-nops most (packed / 4)) where
-  -- nothing is packed, or one nop more stands before other nops
-  go : (none : Bool) → AreNops (newest_first most (packed / 4))
-      → AreNops (cond none [] (nop_of (packed % 4) ∷ newest_first most (packed / 4)))
-  go true rest = tt
-  go false rest = (nop-nop_of (packed % 4), rest)
+newest-nops (suc most) packed = elim (cases_Bool (packed == 0)) [
+  | inl none ↦ rw none tt
+  | inr some ↦ rw some (nop-nop_of (packed % 4), newest-nops most (packed / 4))
+]
 
 -- at most as many nops are read from a number as are asked for
 pub newest-few : (most packed : ℕ) → length (newest_first most packed) ≤ most
@@ -103,8 +101,7 @@ packed-nop : (packed : ℕ) (letter : Letter) → packed ≡ packed_of (newest_f
     → packed % 2 ^ 18 * 4 + digit_of_nop letter
     ≡ packed_of (letter ∷ take 9 (newest_first 10 packed))
 packed-nop packed letter is =
-    ap (λ n. n * 4 + digit_of_nop letter)
-    (ap (λ n. n % 2 ^ 18) is ∙ sym (packed-take 9 (newest_first 10 packed)))
+    rw (packed-take 9 (newest_first 10 packed), ← is) refl
 
 -- this nop and the nine newest before it are found in that number
 found-nop : (packed : ℕ) (letter : Letter) → packed ≡ packed_of (newest_first 10 packed)
@@ -140,20 +137,14 @@ pub nops-read : (packed : ℕ) (letter : Letter) → packed ≡ packed_of (newes
     → reverse (newest_first 10 (packed_after packed letter))
     ≡ nops_read (reverse (newest_first 10 packed)) letter
 unfolding newest_first
-nops-read packed letter is = go (is_nop letter) refl where
-  -- the nops that were packed, the newest first
-  nops : List Letter
-  nops = newest_first 10 packed
-
-  -- after a nop they are the last ten of all, and after another letter there are none
-  go : (nop : Bool) → is_nop letter ≡ nop
-      → reverse (newest_first 10 (cond nop (packed % 2 ^ 18 * 4 + digit_of_nop letter) 0))
-      ≡ cond nop (last_ten (reverse (newest_first 10 packed) ++ letter ∷ [])) []
-  go true nop =
-      ap reverse (found-nop packed letter is nop)
-      ∙ sym (rw (← reverse-append (letter ∷ []) nops, length-reverse (letter ∷ nops))
-      (last-reversed 10 (letter ∷ nops)))
-  go false nop = refl
+nops-read packed letter is =
+    let nops = newest_first 10 packed in
+    elim (cases_Bool (is_nop letter)) [
+      | inl nop ↦ rw nop (ap reverse (found-nop packed letter is nop)
+          ∙ sym (rw (← reverse-append (letter ∷ []) nops, length-reverse (letter ∷ nops))
+          (last-reversed 10 (letter ∷ nops))))
+      | inr nop ↦ rw nop refl
+    ]
 
 -- each of some nops is one
 nop-at : (nops : List Letter) → AreNops nops → (k : ℕ) (d : Letter) → k < length nops
@@ -167,20 +158,16 @@ pub template-packed : (packed : ℕ) → IsTemplate (reverse (newest_first 10 pa
 template-packed packed = record {
   few = rw length-reverse (newest-few 10 packed);
   nops = λ k d h.
-      let long : length (reverse (newest_first 10 packed)) ≡ length (newest_first 10 packed) =
-      length-reverse (newest_first 10 packed) in
-      let within : k < length (newest_first 10 packed) = omega (arith, long, h) in
-      ap is_nop (get_or-reverse (newest_first 10 packed) k d within)
-      ∙ nop-at (newest_first 10 packed) (newest-nops 10 packed)
-      (length (newest_first 10 packed) - 1 - k) d (omega arith);
+      let within = simp length-reverse at h in
+      rw (get_or-reverse (newest_first 10 packed) k d within)
+      (nop-at (newest_first 10 packed) (newest-nops 10 packed) _ d (omega (arith, within)));
 }
 
 -- one number for one template
 packed-once : (a b : ℕ) → a ≡ packed_of (newest_first 10 a) → b ≡ packed_of (newest_first 10 b)
     → reverse (newest_first 10 a) ≡ reverse (newest_first 10 b) → a ≡ b
 packed-once a b one other same =
-    let nops : newest_first 10 a ≡ newest_first 10 b = sym (reverse-reverse (newest_first 10 a))
-    ∙ ap reverse same ∙ reverse-reverse (newest_first 10 b) in
+    let nops = simp reverse-reverse at (ap reverse same) in
     one ∙ ap packed_of nops ∙ sym other
 
 -- two numbers pass the test just where their templates are the same

@@ -1,6 +1,6 @@
 -- A clean letter and two marks in one number.
 use Rattle.std.proofs.Common.{◌≡◌, ◌∙◌, sym, ap, refl, ℕ, ◌+◌, ◌*◌, ◌/◌, ◌%◌, ◌<◌, Bool, true, cond, Some, arith}
-use Rattle.std.specs.Prelude.{◌==◌, unwrap_or}
+use Rattle.std.specs.Prelude.{◌==◌}
 use Rattle.std.proofs.lemmas.Grind.{common_steps}
 use Rattle.instruction_set.specs.declared.letter.Letter.{Letter}
 use Rattle.instruction_set.specs.declared.letter.Letter.TheVariants.{NopA}
@@ -34,33 +34,18 @@ digits : (clean : Letter) (executed copied : Bool)
 digits clean executed copied =
     (grind (arith, index-small clean), grind (arith, index-small clean))
 
--- what is packed is found again
-clean-packed : (clean : Letter) (executed copied : Bool)
-    → clean_in (rest_of clean executed copied) ≡ clean
-clean-packed clean executed copied =
-    ap (λ index. unwrap_or (letter_at index) NopA) (low clean executed copied)
-    ∙ ap (λ found. unwrap_or found NopA) (letter-found clean)
-
-executed-packed : (clean : Letter) (executed copied : Bool)
-    → executed_in (rest_of clean executed copied) ≡ executed
-executed-packed clean executed copied = tested _ executed (digits clean executed copied).0
-
-copied-packed : (clean : Letter) (executed copied : Bool)
-    → copied_in (rest_of clean executed copied) ≡ copied
-copied-packed clean executed copied = tested _ copied (digits clean executed copied).1
-
 -- a number in which a letter and two marks are packed
 module _ (clean : Letter) (executed copied : Bool) (rest : ℕ)
     (is : rest ≡ rest_of clean executed copied) where
   -- its letter and its marks are these
   clean-is : clean_in rest ≡ clean
-  clean-is = ap clean_in is ∙ clean-packed clean executed copied
+  clean-is = ap clean_in is ∙ rw (low clean executed copied, letter-found clean) refl
 
   executed-is : executed_in rest ≡ executed
-  executed-is = ap executed_in is ∙ executed-packed clean executed copied
+  executed-is = ap executed_in is ∙ tested _ executed (digits clean executed copied).0
 
   copied-is : copied_in rest ≡ copied
-  copied-is = ap copied_in is ∙ copied-packed clean executed copied
+  copied-is = ap copied_in is ∙ tested _ copied (digits clean executed copied).1
 
   -- a place with it holds them
   pub place-packed : (letter : Letter) → ◌≡◌ {A = Site}
@@ -85,21 +70,11 @@ module _ (clean : Letter) (executed copied : Bool) (rest : ℕ)
 -- a number with the mark of an executed place
 pub rest-marked : (rest : ℕ) → IsRest rest
     → rest % 32 + 32 + rest / 64 * 64 ≡ rest_of (clean_in rest) true (copied_in rest)
-rest-marked rest is = ap (λ r. r % 32 + 32 + r / 64 * 64) is
-    ∙ go (clean_in rest) (executed_in rest) (copied_in rest) where
-      -- whatever it held
-      go : (clean : Letter) (executed copied : Bool) → rest_of clean executed copied % 32 + 32
-          + rest_of clean executed copied / 64 * 64 ≡ rest_of clean true copied
-      go clean executed copied = grind (arith, index-small clean)
+rest-marked rest is = grind (arith, index-small (clean_in rest), is)
 
 -- a number with another letter, and the mark of a place that was copied to
 pub rest-copied : (rest : ℕ) (letter : Letter) → IsRest rest
     → index_of letter + rest / 32 % 2 * 32 + 64 ≡ rest_of letter (executed_in rest) true
-rest-copied rest letter is = ap (λ r. index_of letter + r / 32 % 2 * 32 + 64) is
-    ∙ go (clean_in rest) (executed_in rest) (copied_in rest) where
-      -- whatever it held
-      go : (clean : Letter) (executed copied : Bool)
-          → index_of letter + rest_of clean executed copied / 32 % 2 * 32 + 64
-          ≡ rest_of letter executed true
-      go clean executed copied = let digit = (digits clean executed copied).0 in
-          rw digit (grind (arith, common_steps))
+rest-copied rest letter is =
+    let digit = (digits (clean_in rest) (executed_in rest) (copied_in rest)).0 in
+    grind (arith, common_steps, digit, is)

@@ -1,5 +1,5 @@
 -- Lists of letters, compared and read after a place.
-use Rattle.std.proofs.Common.{◌-◌, suc, true, false, arith, ◌≡◌, ◌∙◌, ap, refl, ℕ, ◌+◌, ◌%◌, ◌<◌, List, [], ◌∷◌, ◌++◌, Bool, length, append-nil, map, sym, get_or}
+use Rattle.std.proofs.Common.{◌-◌, suc, true, false, arith, ◌≡◌, ◌∙◌, ap, refl, ℕ, ◌+◌, ◌%◌, ◌<◌, List, [], ◌∷◌, ◌++◌, Bool, length, append-nil, map, get_or}
 use Rattle.std.specs.List.{take_while, prefix_len, range_with_len}
 use Rattle.std.specs.Prelude.{unwrap_or}
 use Rattle.std.proofs.Math.Nat.{mod-add-mod}
@@ -29,11 +29,9 @@ pub letter-next : (sites : List Site) (ip counter place next : ℕ) (letter : Le
     → letter ≡ get_or (letters_of sites) next NopA
     → letter ≡ letter_after (letters_of sites) ip (counter + 1)
 letter-next sites ip counter place next letter here further read =
-    let long : length sites ≡ length (letters_of sites) =
-    sym (length-map sites (λ site. site.letter)) in
-    read ∙ ap (λ k. get_or (letters_of sites) k NopA)
-    (next-place ip counter (length sites) place next here further
-    ∙ ap (λ n. (ip + (counter + 1)) % n) long)
+    let long : length (letters_of sites) ≡ length sites =
+    length-map sites (λ site. site.letter) in
+    rw (read, next-place ip counter (length sites) place next here further, long) refl
 
 -- the letters from a step on, the first apart
 pub letters_from-next : (memory : List Letter) (ip counter left : ℕ) → 10 - counter ≡ left + 1

@@ -1,10 +1,10 @@
-use Rattle.std.proofs.Common.{◌≡◌, ◌∙◌, sym, ap, arith, ◌+◌, ◌-◌, ◌++◌, [], ◌∷◌, append_assoc, append-nil, true, false, length-append, refl, add-zero}
+use Rattle.std.proofs.Common.{◌≡◌, ◌∙◌, sym, ap, arith, ◌+◌, ◌-◌, [], append_assoc, append-nil, true, false, length-append, refl, add-zero}
 use Rattle.std.specs.Prelude.{unwrap_or}
 use Rattle.std.proofs.Math.Nat.{mod-eq_of_lt}
 use Rattle.std.proofs.lemmas.Grind.{common_steps}
 use Rattle.instruction_set.specs.Letter.{complement_of}
 use Rattle.label_search.specs.Site.{letters_of}
-use Rattle.label_search.specs.Template.{is_nop, letter_after, template_after, complements_of}
+use Rattle.label_search.specs.Template.{is_nop, letter_after, template_after}
 use Rattle.label_search.proofs.TemplateLemmas.{letter-next, nops_read-room, next-place, nops-next, nops-end, is_nop-complement}
 use Rattle.label_search.proofs.template.complement_after.Goals as goal
 
@@ -24,8 +24,7 @@ returns-then-not-is_nop-clause-complement c =
     let other : is_nop (letter_after letters c.args.ip (c.loop.counter + 1)) ≡ false =
     ap is_nop (sym read) ∙ sym c.is_nop.ensures ∙ c.if-not-is_nop.true in
     let none = nops-end letters c.args.ip c.loop.counter (omega arith) other [] in
-    sym (append-nil c.loop.complement)
-    ∙ sym (ap (λ nops. c.loop.complement ++ complements_of nops) none) ∙ c.loop.invariant.nops
+    sym (append-nil c.loop.complement) ∙ rw none at c.loop.invariant.nops
 
 pub loop-preserved : goal.loop-preserved
 loop-preserved c =
@@ -38,23 +37,14 @@ loop-preserved c =
     ap is_nop (sym read) ∙ sym c.is_nop.ensures ∙ c.if-not-is_nop.false in
     let rest = nops-next letters c.args.ip c.loop.counter (10 - (c.loop.counter + 1))
     (omega arith) nop in
-    let nop-too : is_nop (unwrap_or (complement_of letter) letter) ≡ true =
-    is_nop-complement letter nop in
-    let other : c.complement_of.result ≡ unwrap_or (complement_of letter) letter =
-    c.complement_of.ensures ∙ ap (λ l. unwrap_or (complement_of l) l) read in
-    let noted : c.note.new.self ≡ c.loop.complement ++ unwrap_or (complement_of letter) letter
-    ∷ [] = rw other at c.note.ensures.read
+    let nop-too = is_nop-complement letter nop in
+    let other = rw read at c.complement_of.ensures in
+    let noted = rw other at c.note.ensures.read
     ∙ nops_read-room c.loop.complement (unwrap_or (complement_of letter) letter) nop-too
     (omega arith) in
     record {
       place = next-place c.args.ip c.loop.counter _ _ _ c.loop.invariant.place
           c.next_place-place.ensures;
-      count = rw (
-        noted,
-        length-append c.loop.complement
-            (unwrap_or (complement_of letter) letter ∷ []),
-      ) (omega arith);
-      nops = rw (noted, append_assoc)
-          (ap (λ nops. c.loop.complement ++ complements_of nops) (sym rest)
-          ∙ c.loop.invariant.nops);
+      count = rw (noted, length-append) (omega arith);
+      nops = rw (noted, append_assoc) (rw rest at c.loop.invariant.nops);
     }

@@ -1,4 +1,4 @@
-use Rattle.std.proofs.Common.{◌≡◌, ◌∙◌, sym, ap, arith, ◌+◌, ◌-◌, ◌++◌, [], ◌∷◌, append_assoc, true, false, length-append, refl, add-zero}
+use Rattle.std.proofs.Common.{◌≡◌, ◌∙◌, sym, arith, ◌+◌, ◌-◌, ◌++◌, [], ◌∷◌, append_assoc, true, false, length-append, refl, add-zero}
 use Rattle.std.proofs.Math.Nat.{mod-eq_of_lt}
 use Rattle.std.proofs.lemmas.Grind.{common_steps}
 use Rattle.std.proofs.lemmas.List.Elements.{All-nil}
@@ -44,6 +44,5 @@ loop-preserved c =
       place = next;
       count = rw (noted, length-append c.loop.template (letter ∷ [])) (omega arith);
       template = c.note.ensures.template;
-      nops = rw (noted, append_assoc)
-          (ap (λ l. c.loop.template ++ l) (sym rest) ∙ c.loop.invariant.nops);
+      nops = rw (noted, append_assoc) (rw rest at c.loop.invariant.nops);
     }

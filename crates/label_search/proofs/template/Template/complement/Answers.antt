@@ -1,10 +1,10 @@
-use Rattle.std.proofs.Common.{refl, ◌<◌, ◌+◌, ◌≡◌, ◌∙◌, sym, ap, arith, ◌++◌, ◌∷◌, [], length, take, get_or, true, length-take}
+use Rattle.std.proofs.Common.{refl, ◌<◌, ◌+◌, ◌≡◌, ◌∙◌, arith, ◌++◌, ◌∷◌, [], length, take, get_or, true, length-take}
 use Rattle.std.specs.Prelude.{unwrap_or}
 use Rattle.std.proofs.lemmas.Grind.{common_steps}
 use Rattle.std.proofs.lemmas.List.{length-map, map-append}
 use Rattle.instruction_set.specs.declared.letter.Letter.TheVariants.{NopA}
 use Rattle.instruction_set.specs.Letter.{complement_of}
-use Rattle.label_search.specs.Template.{is_nop, complements_of}
+use Rattle.label_search.specs.Template.{is_nop}
 use Rattle.label_search.proofs.TemplateLemmas.{nops_read-room, is_nop-complement}
 use Rattle.label_search.proofs.template.Template.complement.Goals as goal
 
@@ -15,17 +15,12 @@ loop-at-preserved c =
     let within : at < length nops = omega (arith, c.len-at-end.ensures.value) in
     let nop = get_or nops at NopA in
     let is : is_nop nop ≡ true = c.len-at-end.ensures.template.nops at NopA within in
-    let comp = unwrap_or (complement_of nop) nop in
-    let read : c.complement_of.result ≡ unwrap_or (complement_of nop) nop =
-    rw c.nop.ensures at c.complement_of.ensures in
+    let read = rw c.nop.ensures at c.complement_of.ensures in
     let more : take (at + 1) nops ≡ take at nops ++ nop ∷ [] = grind (arith, common_steps) in
-    let same : length (complements_of (take at nops)) ≡ length (take at nops) =
-    rw length-map refl in
     let long : length c.loop-at.complement ≡ length (take at nops) =
-    ap length c.loop-at.invariant ∙ same in
+    rw (c.loop-at.invariant, length-map) refl in
     let noted = rw read at c.note.ensures.read
     ∙ nops_read-room c.loop-at.complement (unwrap_or (complement_of nop) nop)
     (is_nop-complement nop is)
     (omega (arith, long, length-take at nops, c.len-at-end.ensures.few)) in
-    noted ∙ ap (λ l. l ++ unwrap_or (complement_of nop) nop ∷ []) c.loop-at.invariant
-    ∙ sym (ap complements_of more ∙ map-append _ (take at nops) (nop ∷ []))
+    noted ∙ rw (c.loop-at.invariant, more, map-append) refl
