@@ -1,5 +1,5 @@
 -- The cells of parents rise.
-use Rattle.std.proofs.Common.{◌≡◌, ◌∙◌, sym, ap, subst, ℕ, zero, suc, ◌+◌, ◌<◌, ◌≤◌, List, [], ◌∷◌, ◌++◌, replicate, get_or, arith, append_assoc, append-nil, All}
+use Rattle.std.proofs.Common.{◌≡◌, ◌∙◌, ap, subst, ℕ, zero, suc, ◌+◌, ◌<◌, ◌≤◌, List, [], ◌∷◌, ◌++◌, replicate, get_or, refl, arith, append_assoc, append-nil, All}
 use Rattle.std.specs.List.{flat_map, range_with_len}
 use Rattle.std.specs.List.Sorted.{IsNonDecreasing}
 use Rattle.std.proofs.lemmas.Grind.{flat_map-append}
@@ -15,17 +15,14 @@ parents_below counts n =
 
 -- one cell more
 pub range-more : (n : ℕ) → range_with_len 0 (n + 1) ≡ range_with_len 0 n ++ n ∷ []
-range-more n = sym (map-id (range_with_len 0 (n + 1)))
-    ∙ map-range_with_len_more (λ x. x) 0 n n (omega arith)
-    ∙ ap (λ l. l ++ n ∷ []) (map-id (range_with_len 0 n))
+range-more n = simp map-id at (map-range_with_len_more (λ (x : ℕ). x) 0 n n (omega arith))
 
 -- with one cell more come its parents, as many as are counted for it
 pub parents_below-more : (counts : List ℕ) (n : ℕ)
     → parents_below counts (n + 1) ≡ parents_below counts n ++ replicate (get_or counts n 0) n
 parents_below-more counts n =
     let f = λ (cell : ℕ). replicate (get_or counts cell 0) cell in
-    ap (flat_map f) (range-more n) ∙ flat_map-append f (range_with_len 0 n) (n ∷ [])
-    ∙ ap (λ l. parents_below counts n ++ l) (append-nil (f n))
+    ap (flat_map f) (range-more n) ∙ rw (flat_map-append, append-nil (f n)) refl
 
 -- all numbers are at most y
 pub below-replicate : (xs : List ℕ) (n y : ℕ) → All (λ x. x ≤ y) xs
@@ -57,11 +54,8 @@ parents_below-rise counts (suc n) =
     let before = parents_below-rise counts n in
     let small : All (λ cell. cell ≤ n) (parents_below counts n) =
     λ k d within. omega (arith, before.1 k d within) in
-    let more : parents_below counts n ++ replicate (get_or counts n 0) n
-    ≡ parents_below counts (suc n) = sym (parents_below-more counts n)
-    ∙ ap (parents_below counts) next in
+    let more = rw next at (parents_below-more counts n) in
     let here = below-replicate (parents_below counts n) (get_or counts n 0) n small in (
-      subst IsNonDecreasing more
-          (rises-replicate (parents_below counts n) (get_or counts n 0) n before.0 small),
-      subst (All (λ cell. cell < suc n)) more (λ k d within. omega (arith, here k d within)),
+      rw more (rises-replicate (parents_below counts n) (get_or counts n 0) n before.0 small),
+      rw more (λ k d within. omega (arith, here k d within)),
     )

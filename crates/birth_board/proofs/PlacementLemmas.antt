@@ -1,7 +1,7 @@
 -- One turn of the placing.
-use Rattle.std.proofs.Common.{◌≡◌, ◌∙◌, sym, ap, refl, ℕ, ◌+◌, ◌*◌, ◌<◌, ◌≤◌, true, false, ◌==◌, cond, List, [], ◌∷◌, ◌++◌, length, take, get_or, Option, Some, fold, arith, append_assoc, append-nil, length-append, count_by, inl, inr}
+use Rattle.std.proofs.Common.{◌≡◌, ◌∙◌, sym, ap, refl, ℕ, ◌+◌, ◌*◌, ◌<◌, ◌≤◌, ◌==◌, cond, List, [], ◌∷◌, ◌++◌, length, take, get_or, Option, Some, fold, arith, append_assoc, append-nil, length-append, count_by, inl, inr}
 use Rattle.std.proofs.Math.ListN.{set}
-use Rattle.std.proofs.lemmas.Bool.Decides.{eqb_tells, Decides-eqb}
+use Rattle.std.proofs.lemmas.Bool.Decides.{eqb_tells}
 use Rattle.std.proofs.lemmas.List.{take_all}
 use Rattle.std.proofs.lemmas.List.Sums.{fold_more}
 use Rattle.birth_board.specs.declared.placing_round.PlacingRound.{PlacingRound}
@@ -48,25 +48,18 @@ placing-next torus round board parent before occupants id draws placing same who
     placed =
     placed ∙ rw (stream, who, id_is, same) refl
 
--- who stands where after a turn
-pub next_board-occupants : (torus : TorusNumbers) (round : PlacingRound) (board : Board)
-    (parent : ℕ)
-    (occupants new : List (Option ℕ)) (placing : Placing) → occupants ≡ board.occupants
+-- who stands where after a turn, and the placings
+pub next_board-is : (torus : TorusNumbers) (round : PlacingRound) (board : Board) (parent : ℕ)
+    (occupants new : List (Option ℕ)) (placings more : List Placing) (placing : Placing)
+    → occupants ≡ board.occupants → placings ≡ board.placings
     → placing ≡ next_placing torus round board parent
-    → new ≡ set occupants placing.cell (Some placing.id)
-    → new ≡ (next_board torus round board parent).occupants
+    → new ≡ set occupants placing.cell (Some placing.id) → more ≡ placings ++ placing ∷ []
+    → (new ≡ (next_board torus round board parent).occupants)
+    × (more ≡ (next_board torus round board parent).placings)
 unfolding next_board
-next_board-occupants torus round board parent occupants new placing who placed stands =
-    stands ∙ rw (who, placed) refl
-
--- the placings after a turn
-pub next_board-placings : (torus : TorusNumbers) (round : PlacingRound) (board : Board) (parent : ℕ)
-    (placings new : List Placing) (placing : Placing) → placings ≡ board.placings
-    → placing ≡ next_placing torus round board parent → new ≡ placings ++ placing ∷ []
-    → new ≡ (next_board torus round board parent).placings
-unfolding next_board
-next_board-placings torus round board parent placings new placing so_far placed stands =
-    stands ∙ rw (so_far, placed) refl
+next_board-is torus round board parent occupants new placings more placing who so_far placed stands
+    told =
+    (stands ∙ rw (who, placed) refl, told ∙ rw (so_far, placed) refl)
 
 -- the board after one parent more
 pub board_after-more : (torus : TorusNumbers) (round : PlacingRound) (occupants : List (Option ℕ))
@@ -86,14 +79,6 @@ pub board_after-all : (torus : TorusNumbers) (round : PlacingRound) (occupants :
 unfolding placements_of
 board_after-all torus round occupants parents i all =
     ap (board_after torus round occupants) (take_all i parents all)
-
--- a number below another is not that number
-pub eqb-below : (a b : ℕ) → a < b → (a == b) ≡ false
-eqb-below a b below = elim (eqb_tells a b) [ inl h ↦ absurd (omega (arith, h.1)) | inr h ↦ h.0 ]
-
--- a number is itself
-pub eqb-self : (a : ℕ) → (a == a) ≡ true
-eqb-self a = (Decides-eqb a a).1 refl
 
 -- for each parent there is one placing more
 placed_number : (torus : TorusNumbers) (round : PlacingRound) (board : Board) (parents : List ℕ)

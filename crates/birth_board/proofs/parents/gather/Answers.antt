@@ -1,5 +1,4 @@
-use Rattle.std.proofs.Common.{◌∙◌, sym, ap, arith, subst, ◌++◌, replicate, get_or, All, ◌<◌}
-use Rattle.std.specs.List.Sorted.{IsNonDecreasing}
+use Rattle.std.proofs.Common.{◌∙◌, sym, ap, arith, ◌++◌, replicate, get_or, All, ◌<◌}
 use Rattle.birth_board.specs.Parents.{parents_of}
 use Rattle.birth_board.proofs.ParentsLemmas.{parents_below, parents_below-more, parents_below-rise}
 use Rattle.birth_board.proofs.parents.gather.Goals as goal
@@ -16,13 +15,12 @@ returns-clause-parents c =
 
 pub returns-clause-rising : goal.returns-clause-rising
 returns-clause-rising c =
-    subst IsNonDecreasing (sym (c.from_vec.ensures ∙ c.loop-cell.invariant))
+    rw (c.from_vec.ensures, c.loop-cell.invariant)
     (parents_below-rise c.args.counts.now c.loop-cell.cell).0
 
 pub returns-clause-counted : goal.returns-clause-counted
 returns-clause-counted c =
     let below : All (λ cell. cell < c.loop-cell.cell) c.from_vec.result =
-    subst (All (λ cell. cell < c.loop-cell.cell))
-    (sym (c.from_vec.ensures ∙ c.loop-cell.invariant))
+    rw (c.from_vec.ensures, c.loop-cell.invariant)
     (parents_below-rise c.args.counts.now c.loop-cell.cell).1 in
     λ k d within. omega (arith, below k d within)

@@ -1,4 +1,5 @@
-use Rattle.std.proofs.Common.{◌≡◌, ◌∙◌, sym, ap, ◌+◌, ◌*◌, ◌<◌, ◌≤◌, ◌==◌, length, take, count_by, get_or, arith, length-take, length-append, [], ◌∷◌}
+use Rattle.std.proofs.Common.{◌≡◌, ◌∙◌, sym, ap, ◌+◌, ◌*◌, ◌<◌, ◌≤◌, ◌==◌, length, take, count_by, get_or, arith, length-take, length-append, [], ◌∷◌, eq-eqb, refl}
+use Rattle.std.proofs.lemmas.Bool.{ne_eqb}
 use Rattle.std.proofs.lemmas.List.{length-set}
 use Rattle.std.proofs.lemmas.List.Elements.{All-push, All-same}
 use Rattle.random_streams.specs.RandomStream.{after}
@@ -6,7 +7,7 @@ use Rattle.std.proofs.lemmas.List.Sums.{count_by_more_yes, count_by_more_no}
 use Rattle.birth_board.specs.declared.placing.Placing.{Placing}
 use Rattle.birth_board.specs.Torus.{torus_numbers, cells_of}
 use Rattle.birth_board.specs.Placement.{place_stream}
-use Rattle.birth_board.proofs.PlacementLemmas.{board_after, board-parents, board_after-all, board_after-more, words-taken, placing-next, next_board-occupants, next_board-placings, eqb-below, eqb-self}
+use Rattle.birth_board.proofs.PlacementLemmas.{board_after, board-parents, board_after-all, board_after-more, words-taken, placing-next, next_board-is}
 use Rattle.birth_board.proofs.turns.place_all.Goals as goal
 
 pub loop-parent-preserved : goal.loop-parent-preserved
@@ -33,9 +34,13 @@ loop-parent-preserved c =
     let more = board_after-more torus round c.args.occupants.now parents i within in
     let counted : count_by (λ p. p == parent) (take (i + 1) parents)
     ≡ count_by (λ p. p == parent) before + 1 =
-    count_by_more_yes (λ p. p == parent) parents i 0 within (eqb-self parent) in
+    count_by_more_yes (λ p. p == parent) parents i 0 within (eq-eqb parent parent refl) in
     let words : 4 * count_by (λ p. p == parent) before + 4
     ≡ 4 * count_by (λ p. p == parent) (take (i + 1) parents) = omega arith in
+    let after_turn = next_board-is torus round board parent c.loop-parent.occupants
+    c.place_one-placing.new.occupants c.loop-parent.placings.items c.push_reserved.new.self.items
+    c.place_one-placing.result c.loop-parent.invariant.occupants c.loop-parent.invariant.placings
+    placed c.place_one-placing.ensures.occupants c.push_reserved.ensures.items in
     let in_torus : Placing → Type 0 = λ placing. placing.cell < cells_of torus in
     record {
       stream = c.place_one-placing.ensures.draws ∙ ap (after 4) stream
@@ -43,18 +48,13 @@ loop-parent-preserved c =
           ∙ ap (λ q. place_stream round q (4 * count_by (λ p. p == q) (take (i + 1) parents)))
           (sym c.turn_to-turn.ensures.cell);
       later = λ q above.
-          let below : parent < q = omega arith in
-          count_by_more_no (λ p. p == q) parents i 0 within (eqb-below parent q below)
+          count_by_more_no (λ p. p == q) parents i 0 within
+          (ne_eqb parent q (λ same. omega (arith, same, above)))
           ∙ c.loop-parent.invariant.later q (omega arith);
       order = λ k low high. omega (arith, c.requires.can.rising i k 0 (omega arith) high);
       id = omega arith;
-      occupants = next_board-occupants torus round board parent c.loop-parent.occupants
-          c.place_one-placing.new.occupants c.place_one-placing.result
-          c.loop-parent.invariant.occupants placed c.place_one-placing.ensures.occupants
-          ∙ ap (λ b. b.occupants) (sym more);
-      placings = next_board-placings torus round board parent c.loop-parent.placings.items
-          c.push_reserved.new.self.items c.place_one-placing.result c.loop-parent.invariant.placings
-          placed c.push_reserved.ensures.items ∙ ap (λ b. b.placings) (sym more);
+      occupants = after_turn.0 ∙ ap (λ b. b.occupants) (sym more);
+      placings = after_turn.1 ∙ ap (λ b. b.placings) (sym more);
       count = omega (
         arith,
         ap length c.push_reserved.ensures.items,
