@@ -1,5 +1,5 @@
 -- The best so far of a walk over the genotypes is the dominant one.
-use Rattle.std.proofs.Common.{◌≡◌, ◌∙◌, refl, ap, ℕ, zero, suc, ◌<◌, Bool, true, false, not, List, [], ◌∷◌, length, get_or, Some, None, map, subst, Result, Ok, Err, IsErr, arith}
+use Rattle.std.proofs.Common.{◌≡◌, ◌∙◌, refl, ap, ℕ, zero, suc, ◌<◌, Bool, true, false, not, List, [], ◌∷◌, length, get_or, Some, None, map, Result, Ok, Err, IsErr, arith}
 use Rattle.std.specs.Prelude.{find}
 use Rattle.std.specs.Cmp.{IsTotalOrder, IsStrictWeakOrder, nat_cmp_total}
 use Rattle.std.specs.Cmp.Lexicographic.{nat_list_cmp_total}
@@ -67,10 +67,7 @@ pub dominant-some : (genotypes : List (ℕ × GenotypeCount)) (found : GenotypeC
     → dominant_among (values_of genotypes) ≡ Some found → genotypes ≡ [] → ⊥
 unfolding dominant_among
 dominant-some genotypes found is empty =
-    let none : dominant_among [] ≡ Some found =
-    subst (λ (gs : List (ℕ × GenotypeCount)). dominant_among (values_of gs) ≡ Some found) empty
-    is in
-    cc
+    let none = rw empty at is in cc
 
 -- an error is no answer
 pub not_ok : {T E : Type 0} (r : Result T E) (x : T) → IsErr r → r ≡ Ok x → ⊥

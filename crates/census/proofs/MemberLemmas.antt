@@ -1,11 +1,12 @@
 -- The dominant genotype of a list is that of each list with the same members.
-use Rattle.std.proofs.Common.{◌≡◌, ◌∙◌, refl, sym, ap, ℕ, zero, suc, ◌<◌, Bool, true, false, cond, not, List, [], ◌∷◌, length, get_or, Option, Some, None, map, Less, Equal, Greater, arith}
+use Rattle.std.proofs.Common.{◌≡◌, ◌∙◌, refl, sym, ap, ℕ, zero, suc, ◌<◌, Bool, true, not, List, [], ◌∷◌, length, get_or, Option, Some, None, map, Less, Equal, Greater, arith, inl, inr}
 use Rattle.std.specs.Prelude.{find}
 use Rattle.std.specs.Bool.{Decides}
 use Rattle.std.specs.FinMap.{nat_cmp-IsAntisymmetric, slice_cmp-IsAntisymmetric}
 use Rattle.std.specs.List.{AllPass, Contains, list_all}
 use Rattle.std.specs.Ordering.{nat_cmp, ordering_then, ordering_reverse, is_lt}
 use Rattle.std.specs.declared.cmp.Ordering.{Ordering}
+use Rattle.std.proofs.lemmas.Bool.{cases_Bool}
 use Rattle.std.proofs.lemmas.Bool.Decides.{nat_tests}
 use Rattle.std.proofs.lemmas.Grind.{common_steps}
 use Rattle.std.proofs.lemmas.List.Elements.{Contains-get_or}
@@ -20,26 +21,23 @@ use Rattle.census.proofs.DominanceLemmas.{dominance-total}
 found : {X : Type 0} (p : X → Bool) (xs : List X) (a : X) → find p xs ≡ Some a
     → (p a ≡ true) × Contains xs a
 found p [] a is = cc
-found {X} p (x ∷ xs) a is = by (p x) refl is (found p xs a) where
-  -- whether the first passes or not, what is found passes and is among the elements
-  by : (b : Bool) → p x ≡ b → cond b (Some x) (find p xs) ≡ Some a
-      → (find p xs ≡ Some a → (p a ≡ true) × Contains xs a) → (p a ≡ true) × Contains (x ∷ xs) a
-  by true passes is later =
-      let same : x ≡ a = cc in (ap p (sym same) ∙ passes, (0, omega arith, same))
-  by false fails is later =
-      let rest = later is in (rest.0, (suc rest.1.0, omega (arith, rest.1.1), rest.1.2))
+found p (x ∷ xs) a is = elim (cases_Bool (p x)) [
+  | inl passes ↦ (let same : x ≡ a = cc (rw passes at is) in
+      (rw same at passes, (0, omega arith, same)))
+  | inr fails ↦ (let rest = found p xs a (rw fails at is) in
+      (rest.0, (suc rest.1.0, omega (arith, rest.1.1), rest.1.2)))
+]
 
 -- where an element passes, one is found
 finds : {X : Type 0} (p : X → Bool) (xs : List X) (k : ℕ) (d : X) → k < length xs
     → p (get_or xs k d) ≡ true → (a : X) × (find p xs ≡ Some a)
 finds p [] k d within passes = absurd (omega (arith, within))
 finds p (x ∷ xs) zero d within passes = (x, rw passes refl)
-finds {X} p (x ∷ xs) (suc k) d within passes =
-    by (p x) refl (finds p xs k d (omega (arith, within)) passes) where
-      by : (b : Bool) → p x ≡ b → (a : X) × (find p xs ≡ Some a)
-          → (a : X) × (find p (x ∷ xs) ≡ Some a)
-      by true here later = (x, rw here refl)
-      by false here later = (later.0, rw here later.1)
+finds p (x ∷ xs) (suc k) d within passes = elim (cases_Bool (p x)) [
+  | inl here ↦ (x, rw here refl)
+  | inr here ↦ (let rest = finds p xs k d (omega (arith, within)) passes in
+      (rest.0, rw here rest.1))
+]
 
 -- two letters with one index are one
 abbrev pub OneIndex : Type 0
@@ -71,7 +69,7 @@ tied one a b tie =
     letters-of_indexes one a.genome b.genome
     (slice_cmp-IsAntisymmetric nat_cmp-IsAntisymmetric (map index_of a.genome)
     (map index_of b.genome) parts.1) in
-    let same : a.count ≡ b.count = sym count in λ i. record { genome = genome i; count = same i }
+    λ i. record { genome = genome i; count = sym count i }
 
 -- none of two comes before the other only where they tie
 ties : (forth back : Ordering) → forth ≡ ordering_reverse back → not (is_lt forth) ≡ true
@@ -91,17 +89,11 @@ best-one : OneIndex → (genotypes : List GenotypeCount) (a b : GenotypeCount) �
 best-one one genotypes a b is has =
     let test : GenotypeCount → GenotypeCount → Bool = λ best other. not (outranks other best) in
     let forth : not (outranks a b) ≡ true =
-    ap (test b) (sym has_a) ∙ has.before is.among.0 a is.among.1 in
+    ap (test b) (sym is.among.2) ∙ has.before is.among.0 a is.among.1 in
     let back : not (outranks b a) ≡ true =
-    ap (test a) (sym has_b) ∙ is.before has.among.0 b has.among.1 in
+    ap (test a) (sym has.among.2) ∙ is.before has.among.0 b has.among.1 in
     tied one a b (ties (dominance_cmp a b) (dominance_cmp b a) (dominance-total.antisymm a b) forth
     back)
-  where
-    has_a : get_or genotypes is.among.0 a ≡ a
-    has_a = is.among.2
-
-    has_b : get_or genotypes has.among.0 b ≡ b
-    has_b = has.among.2
 
 -- the dominant one is the best
 best-dominant : (genotypes : List GenotypeCount) (a : GenotypeCount)
@@ -134,9 +126,8 @@ best-same genotypes others a same is =
     let test : GenotypeCount → Bool = λ other. not (outranks other a) in
     record {
       among = same.forth a is.among;
-      before = λ k d within. (let here =
-          same.back (get_or others k d) (Contains-get_or others k d within) in ap test (sym here.2)
-          ∙ is.before here.0 (get_or others k d) here.1);
+      before = λ k d within. (let here = same.back _ (Contains-get_or others k d within) in
+          ap test (sym here.2) ∙ is.before here.0 (get_or others k d) here.1);
     }
 
 -- lists with the same members have the same dominant genotype, or none
@@ -145,9 +136,6 @@ pub dominant-same : OneIndex → (genotypes others : List GenotypeCount)
 dominant-same one genotypes others same =
     by (dominant_among genotypes) (dominant_among others) refl refl
   where
-    turned : HaveSameMembers others genotypes
-    turned = record { forth = same.back; back = same.forth }
-
     by : (first second : Option GenotypeCount) → dominant_among genotypes ≡ first
         → dominant_among others ≡ second → first ≡ second
     by (Some a) second is has =
@@ -156,5 +144,6 @@ dominant-same one genotypes others same =
     by None None is has = refl
     by None (Some b) is has =
         let found_too = dominant-best_one one genotypes b
-        (best-same others genotypes b turned (best-dominant others b has)) in
+        (best-same others genotypes b (record { forth = same.back; back = same.forth })
+        (best-dominant others b has)) in
         cc

@@ -1,11 +1,12 @@
 -- The counts of the tasks, changed one after another.
-use Rattle.std.proofs.Common.{◌≡◌, ◌∙◌, sym, refl, ap, ℕ, zero, suc, ◌+◌, ◌-◌, ◌<◌, ◌≤◌, ◌≢◌, Bool, List, length, map, set, get_or, get_or-set_same, get_or-set_other, below_more, arith}
+use Rattle.std.proofs.Common.{◌≡◌, ◌∙◌, sym, refl, ℕ, ◌+◌, ◌-◌, ◌<◌, ◌≤◌, Bool, List, length, map, set, get_or, get_or-set_same, get_or-set_other, below_more, arith, zero-add}
 use Rattle.std.specs.Prelude.{slice_index}
 use Rattle.std.specs.Int.{from_bool}
 use Rattle.std.specs.List.{All}
 use Rattle.std.proofs.lemmas.Grind.{common_steps}
 use Rattle.std.proofs.lemmas.List.Elements.{All-map}
 use Rattle.std.proofs.lemmas.List.{length-set, ext_get_or, get_or-map}
+use Rattle.std.proofs.lemmas.List.FromFn.{get_or-range_with_len}
 use Rattle.logic_tasks.specs.declared.task.Task.{Task}
 use Rattle.logic_tasks.specs.declared.task.Task.TheVariants.{Not}
 use Rattle.logic_tasks.specs.LogicTasks.{all_tasks, task_place}
@@ -14,16 +15,8 @@ use Rattle.census.specs.Changes.{tasks_without}
 
 -- the place of a task of the table
 place_of-nth : (k : ℕ) → k < 9 → task_place (get_or all_tasks k Not) ≡ k
-place_of-nth zero h = refl
-place_of-nth (suc zero) h = refl
-place_of-nth (suc (suc zero)) h = refl
-place_of-nth (suc (suc (suc zero))) h = refl
-place_of-nth (suc (suc (suc (suc zero)))) h = refl
-place_of-nth (suc (suc (suc (suc (suc zero))))) h = refl
-place_of-nth (suc (suc (suc (suc (suc (suc zero)))))) h = refl
-place_of-nth (suc (suc (suc (suc (suc (suc (suc zero))))))) h = refl
-place_of-nth (suc (suc (suc (suc (suc (suc (suc (suc zero)))))))) h = refl
-place_of-nth (suc (suc (suc (suc (suc (suc (suc (suc (suc k))))))))) h = absurd (omega arith)
+place_of-nth k h =
+    sym (get_or-map task_place all_tasks k Not 0 h) ∙ get_or-range_with_len 0 9 k 0 h ∙ zero-add k
 
 -- one more, or one fewer, where a set has the task
 abbrev pub changed : (ℕ → ℕ → ℕ) → List ℕ → List Bool → Task → ℕ
@@ -47,17 +40,12 @@ HasChanged-more change before credited after i by within has is =
     let n : ℕ = change (get_or after i 0) by in
     let inside : i < length after = omega (arith, has.long) in
     let now : n ≡ changed change before credited (get_or all_tasks i Not) =
-    ap (λ m. change m by) (has.others i (omega arith))
-    ∙ ap (λ m. change (get_or before i 0) m) is
-    ∙ ap (λ k. change (get_or before k 0) (from_bool (has_task credited (get_or all_tasks i Not))))
-    (sym (place_of-nth i within)) in
+    rw (has.others i (omega arith), is, place_of-nth i within) refl in
     record {
       long = length-set after i n ∙ has.long;
-      first = below_more _ _ (λ k h. let ne : k ≢ i = omega arith in
-          get_or-set_other after i k n 0 ne ∙ has.first k h)
+      first = below_more _ _ (λ k h. get_or-set_other after i k n 0 (omega arith) ∙ has.first k h)
           (get_or-set_same after i n 0 inside ∙ now);
-      others = λ k h. let ne : k ≢ i = omega arith in get_or-set_other after i k n 0 ne
-          ∙ has.others k (omega arith);
+      others = λ k h. get_or-set_other after i k n 0 (omega arith) ∙ has.others k (omega arith);
     }
 
 -- all are changed
