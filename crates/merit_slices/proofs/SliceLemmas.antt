@@ -3,13 +3,13 @@ use Rattle.std.proofs.Common.{◌≡◌, ◌∙◌, sym, ap, ℕ, zero, suc, ◌
 use Rattle.std.proofs.Math.Nat.{div-mul-le_self, mul-le-mul_left, mul-le-mul, div-le_of_le-mul, mul-div_cancel, mul-add-div_right}
 use Rattle.std.proofs.Math.Seq.{take-length}
 use Rattle.std.proofs.lemmas.Bool.{cases_lt}
+use Rattle.std.proofs.lemmas.Bool.Decides.{nat_tests}
 use Rattle.std.proofs.Math.ListN.{get_or-eq_default}
 use Rattle.std.proofs.lemmas.Nat.{le-div}
 use Rattle.std.proofs.lemmas.List.FromFn.{get_or-map-range_with_len, length-map-range_with_len, sum_by-map-range_with_len_more}
 use Rattle.std.proofs.lemmas.List.Sums.{sum_by-take-le, sum_by_more, sum_by-le-sum_by}
 use Rattle.std.specs.Prelude.{nat_lt}
 use Rattle.std.specs.List.{range_with_len}
-use Rattle.merit_slices.proofs.MeritLemmas.{if-le}
 use Rattle.merit_slices.specs.Slices.{living_in, quota, steps_before, share_of, shares_of}
 
 -- a larger part of the merits gets no less
@@ -40,15 +40,6 @@ quotient-and-rest product all low some h =
     sym (mul-add-div_right some low (product - low * all))
     ∙ ap (λ n. n / all) (omega (arith, h))
 
--- no share is above all steps
-pub share_of-le : (merits : List ℕ) (steps cell : ℕ) → share_of merits steps cell ≤ steps
-share_of-le merits steps cell =
-    omega (
-      arith,
-      quota-le steps (sum (take (cell + 1) merits)) (sum merits)
-          (sum_by-take-le (λ x. x) merits (cell + 1)),
-    )
-
 -- no place of the shares has more than all steps
 pub shares_of-few : (merits : List ℕ) (steps : ℕ) → (cell : ℕ)
     → get_or (shares_of merits steps) cell 0 ≤ steps
@@ -58,7 +49,8 @@ shares_of-few merits steps cell =
         arith,
         get_or-map-range_with_len (share_of merits steps) 0 (length merits) cell cell 0 within
             (omega arith),
-        share_of-le merits steps cell,
+        quota-le steps (sum (take (cell + 1) merits)) (sum merits)
+            (sum_by-take-le (λ x. x) merits (cell + 1)),
       )
       | inr past ↦
           let beyond : length (shares_of merits steps) ≤ cell =
@@ -97,8 +89,7 @@ sum-shares_of merits steps some =
 
 -- who lives counts for no more than the merit
 counted-le : (merit : ℕ) → cond (nat_lt 0 merit) 1 0 ≤ merit
-counted-le zero = omega arith
-counted-le (suc n) = omega (arith, if-le (nat_lt 0 (suc n)) 1)
+counted-le merit = grind (arith, nat_tests)
 
 -- no more live than all merits together
 pub living-le-sum : (merits : List ℕ) → living_in merits ≤ sum merits

@@ -1,7 +1,5 @@
-use Rattle.std.proofs.Common.{◌≡◌, ◌∙◌, sym, ap, arith, ◌+◌, ◌-◌, ◌++◌, ◌∷◌, [], length, take, sum, map, slice_index_or, refl}
-use Rattle.std.specs.List.{range_with_len}
-use Rattle.std.proofs.Math.Seq.{take-length}
-use Rattle.std.proofs.lemmas.List.{take_more_set}
+use Rattle.std.proofs.Common.{◌≡◌, ◌∙◌, sym, arith, ◌+◌, ◌-◌, length, take, sum, slice_index_or, refl}
+use Rattle.std.proofs.lemmas.List.{take_all, take_more_set}
 use Rattle.std.proofs.lemmas.List.FromFn.{map-range_with_len_more}
 use Rattle.std.proofs.lemmas.List.Sums.{sum_by_more}
 use Rattle.merit_slices.specs.Slices.{share_of, steps_before}
@@ -23,15 +21,11 @@ loop-cell-preserved c =
       before = before;
       given = due;
       made = take_more_set c.loop-cell.out cell _ (omega arith)
-          ∙ ap (λ xs. xs ++ (c.due_by-due.result - c.loop-cell.given) ∷ [])
-          c.loop-cell.invariant.made ∙ ap (λ x. map share (range_with_len 0 cell) ++ x ∷ []) value
-          ∙ sym (map-range_with_len_more share 0 cell cell (omega arith));
+          ∙ rw (c.loop-cell.invariant.made, value) (sym
+          (map-range_with_len_more share 0 cell cell (omega arith)));
     }
 
 pub returns : goal.returns
 returns c =
     let all : c.loop-cell.cell ≡ length c.args.merits.now = omega arith in
-    let whole : c.loop-cell.cell ≡ length c.loop-cell.out = omega arith in
-    sym (ap (λ n. take n c.loop-cell.out) whole ∙ take-length c.loop-cell.out)
-    ∙ c.loop-cell.invariant.made
-    ∙ ap (λ n. map (share_of c.args.merits.now c.args.steps) (range_with_len 0 n)) all
+    sym (take_all _ c.loop-cell.out (omega arith)) ∙ rw all at c.loop-cell.invariant.made
