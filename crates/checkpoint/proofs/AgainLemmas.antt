@@ -1,7 +1,8 @@
 -- Whoever may stand in a cell has lines that come in their place.
-use Rattle.std.proofs.Common.{◌≡◌, ℕ, ◌<◌, ◌≤◌, ◌*◌, ◌==◌, true, List, ◌∷◌, ◌++◌, Some, length, get_or, refl, sym, ap, subst, ◌∙◌, arith, length-append, eq-eqb, inl, inr}
-use Rattle.std.specs.Prelude.{◌^◌, nat_lt, not, slice_get, if◌then◌else◌}
-use Rattle.std.proofs.lemmas.Bool.{cases_Bool, le-leb, lt-ltb, ne_eqb}
+use Rattle.std.proofs.Common.{◌≡◌, ℕ, ◌<◌, ◌≤◌, ◌*◌, ◌==◌, true, List, ◌∷◌, ◌++◌, Some, length, get_or, refl, ap, ◌∙◌, arith, length-append}
+use Rattle.std.specs.Prelude.{nat_lt, not, slice_get, if◌then◌else◌}
+use Rattle.std.proofs.lemmas.Bool.{lt-ltb, ne_eqb}
+use Rattle.std.proofs.lemmas.Bool.Decides.{nat_tests}
 use Rattle.std.proofs.lemmas.List.Sums.{list_all-from_AllPass}
 use Rattle.std.proofs.lemmas.Option.{slice_get-get_or}
 use Rattle.std.proofs.Math.ListN.{get_or-append}
@@ -47,17 +48,13 @@ module _ (head : HeadValues) (placed : List Placed) (one : Placed) (others : Lis
 
   -- and may stand there
   pub stands_itself : MayStandThere head one
-  stands_itself = subst (λ (p : Placed). MayStandThere head p)
-      (get_or-append_seam placed one others one)
+  stands_itself = rw get_or-append_seam at
       (saved.each (length placed) one (omega (arith, length-append placed (one ∷ others))))
 
 -- it has not reached the age of death
 young_again : (head : HeadValues) (o : OrganismValues)
     → (head.death ≡ true → o.age < head.age_limit * length o.genome) → is_young head o ≡ true
-young_again head o young = elim (cases_Bool head.death) [
-  | inl is ↦ rw (is, lt-ltb o.age (head.age_limit * length o.genome) (young is)) refl
-  | inr not ↦ rw not refl
-]
+young_again head o young = grind (arith, nat_tests, young)
 
 module _ (head : HeadValues) (cell : ℕ) (o : Occupant)
     (stands : MayStandThere head (record { cell = cell; occupant = o })) where
@@ -65,46 +62,17 @@ module _ (head : HeadValues) (cell : ℕ) (o : Occupant)
   pub stands_again : (placed : List Placed) → is_above cell placed ≡ true
       → is_new o.id placed ≡ true → may_stand head placed (values_in cell o) ≡ true
   stands_again placed above fresh =
-      let lives = stands.occupant in
-      let size = length o.organism.genome in
-      rw (
-        lt-ltb cell (head.width * head.height) stands.cell,
-        above,
-        lt-ltb o.id head.next_id lives.id,
-        fresh,
-        le-leb 1 o.organism.merit lives.sound.some_merit,
-        le-leb o.organism.merit (2 ^ 38) lives.sound.merit,
-        le-leb head.rules.least size lives.genome.0,
-        le-leb size head.rules.greatest lives.genome.1,
-        lt-ltb o.organism.age (2 ^ 48) lives.age,
-        le-leb o.organism.read o.organism.age lives.sound.organism.read,
-        young_again head (values_in cell o) lives.young,
-      ) refl
+      let young = young_again head (values_in cell o) stands.occupant.young in
+      grind (arith, nat_tests)
 
   -- and that of its machine
   pub follows_again :
       may_follow head (values_in cell o) (image_of o.organism.machine) ≡ true
   follows_again =
       let m = o.organism.machine in
-      let size = length m.memory in
-      let is = stands.occupant.sound.machine in
-      let birth_length = stands.occupant.sound.organism.birth_length in
-      let most = (if m.pending then 6 else 2) * length o.organism.genome in
-      let limit = le-leb size head.memory_limit
-      (omega (arith, is.greatest, stands.occupant.limit)) in
-      let growth = le-leb size most
-      (subst (λ (n : ℕ). size ≤ (if m.pending then 6 else 2) * n) birth_length is.growth) in
-      rw (
-        eq-eqb (length m.clean) size is.clean,
-        eq-eqb (length m.executed) size is.executed,
-        eq-eqb (length m.copied) size is.copied,
-        limit,
-        growth,
-        lt-ltb m.heads.ip size is.ip,
-        lt-ltb m.heads.read size is.read,
-        lt-ltb m.heads.write size is.write,
-        lt-ltb m.heads.flow size is.flow,
-      ) refl
+      let growth : length m.memory ≤ (if m.pending then 6 else 2) * length o.organism.genome =
+      rw (← stands.occupant.sound.organism.birth_length) stands.occupant.sound.machine.growth in
+      grind (arith, nat_tests)
 
   -- the two lines are of the organism
   pub placed_again : ((m : Machine) → IsMachine m
@@ -114,9 +82,6 @@ module _ (head : HeadValues) (cell : ℕ) (o : Occupant)
   placed_again whole =
       let m = o.organism.machine in
       let same : machine_of_image (image_of m) (length o.organism.genome) head.memory_limit ≡ m =
-      rw (sym stands.occupant.sound.organism.birth_length, sym stands.occupant.limit)
+      rw (← stands.occupant.sound.organism.birth_length, ← stands.occupant.limit)
       (whole m stands.occupant.sound.machine) in
-      ap (λ (other : Machine). record {
-        cell = cell;
-        occupant = record { id = o.id; organism = record o.organism { machine = other } };
-      }) same
+      rw same refl

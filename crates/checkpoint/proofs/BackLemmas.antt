@@ -31,13 +31,10 @@ pub cells_again : (front : List (Option Occupant)) (first : ℕ) (cells : List (
     ≡ front ++ cells
 cells_again front first [] same = refl
 cells_again front first (None ∷ cells) same =
-    let others : List (Option Occupant) = replicate (length cells) None in
     let more : first + 1 ≡ length (front ++ None ∷ []) =
     omega (arith, same, length-append front (None ∷ [])) in
-    ap (λ (l : List (Option Occupant)). fold with_placed l (standing_from (first + 1) cells))
-    (sym (append_assoc front (None ∷ []) others))
-    ∙ cells_again (front ++ None ∷ []) (first + 1) cells more
-    ∙ append_assoc front (None ∷ []) cells
+    rw (← append_assoc front (None ∷ []) (replicate (length cells) None))
+    (rw (cells_again (front ++ None ∷ []) (first + 1) cells more, append_assoc) refl)
 cells_again front first (Some o ∷ cells) same =
     let others : List (Option Occupant) = replicate (length cells) None in
     let more : first + 1 ≡ length (front ++ Some o ∷ []) =
@@ -79,6 +76,11 @@ AllReadBack head placed first (Some o ∷ cells) =
     ReadsBack head placed first o
     × AllReadBack head (placed ++ record { cell = first; occupant = o } ∷ []) (first + 1) cells
 
+-- a line, and what is behind it
+line_apart : (line lines rest : List ℕ)
+    → ((line ++ 10 ∷ []) ++ lines) ++ rest ≡ line ++ 10 ∷ (lines ++ rest)
+line_apart line lines rest = simp append_assoc
+
 -- the two lines of an organism
 organism_on : (number : ℕ) (head : HeadValues) (placed : List Placed) (cell : ℕ) (o : Occupant)
     (rest : List ℕ) → ReadsBack head placed cell o
@@ -92,8 +94,7 @@ organism_on number head placed cell o rest back =
     let behind = machine_row_text o ++ 10 ∷ rest in
     let one : Placed = record { cell = cell; occupant = o } in
     let text : slot_text cell (Some o) ++ rest ≡ organism_row_text cell o ++ 10 ∷ behind =
-    append_assoc (organism_row_text cell o ++ 10 ∷ []) (machine_row_text o ++ 10 ∷ []) rest
-    ∙ append_assoc (organism_row_text cell o) (10 ∷ []) ((machine_row_text o ++ 10 ∷ []) ++ rest)
+    line_apart (organism_row_text cell o) (machine_row_text o ++ 10 ∷ []) rest
     ∙ ap (λ (l : List ℕ). organism_row_text cell o ++ 10 ∷ l)
     (append_assoc (machine_row_text o) (10 ∷ []) rest) in
     let first : told_saved_line (Among head placed) (Organism values)
@@ -127,12 +128,9 @@ cells_on number head placed first (Some o ∷ cells) rest back =
     let deep =
     cells_on (number + 1 + 1) head (placed ++ one ∷ []) (first + 1) cells rest back.1 in (
       deep.0,
-      ap (λ (l : List ℕ). pieces_state number (Among head placed) (cut l))
-          (append_assoc (slot_text first (Some o)) others rest)
-          ∙ organism_on number head placed first o (others ++ rest) back.0
-          ∙ deep.1
-          ∙ ap (λ (l : List Placed). pieces_state deep.0 (Among head l) (cut rest))
-          (append_assoc placed (one ∷ []) (standing_from (first + 1) cells)),
+      rw (append_assoc (slot_text first (Some o)) others rest)
+          (organism_on number head placed first o (others ++ rest) back.0 ∙ deep.1
+          ∙ rw (append_assoc placed (one ∷ []) (standing_from (first + 1) cells)) refl),
     )
 
 -- what is used of images
@@ -202,10 +200,7 @@ read_back spell whole state is =
     let lines = flat_map cell_text (enumerate_from 0 state.cells) in
     let last = saved_row_text (Count count) ++ 10 ∷ [] in
     let after = state_of_lines head standing in
-    let text : (((saved_row_text (Head head) ++ 10 ∷ []) ++ lines) ++ last)
-    ≡ saved_row_text (Head head) ++ 10 ∷ (lines ++ last) =
-    append_assoc (saved_row_text (Head head) ++ 10 ∷ []) lines last
-    ∙ append_assoc (saved_row_text (Head head)) (10 ∷ []) (lines ++ last) in
+    let text = line_apart (saved_row_text (Head head)) lines last in
     let first : HasSavedForm (Head head) = saved.values in
     let few : count ≤ 18446744073709551615 =
     omega (

@@ -1,15 +1,15 @@
 -- What is kept of the organisms that were told, with one organism more.
-use Rattle.std.proofs.Common.{◌≡◌, ℕ, zero, suc, ◌+◌, ◌≤◌, ◌==◌, Bool, true, false, cond, List, [], ◌∷◌, ◌++◌, Some, length, refl, ap, subst, arith, inl, inr, ◌≢◌, ◌<◌}
+use Rattle.std.proofs.Common.{◌≡◌, ℕ, zero, suc, ◌+◌, ◌≤◌, ◌==◌, Bool, true, List, [], ◌∷◌, ◌++◌, Some, length, refl, ap, arith, inl, inr}
 use Rattle.std.specs.List.{list_all}
 use Rattle.std.specs.Ordering.{nat_cmp}
 use Rattle.std.specs.Prelude.{◌⊎◌, ◌&&◌, not, nat_le, nat_lt, slice_get}
 use Rattle.std.specs.BTreeSet.{BTreeSet, contains, Updates}
 use Rattle.std.specs.BTreeMap.{is_at}
-use Rattle.std.proofs.lemmas.Bool.{and_parts}
 use Rattle.std.proofs.lemmas.Bool.Decides.{nat_tests}
 use Rattle.std.proofs.lemmas.List.Elements.{All-append, All-cons}
 use Rattle.std.proofs.lemmas.List.Folds.{list_all-append}
-use Rattle.std.proofs.lemmas.Option.{slice_get_within}
+use Rattle.std.proofs.lemmas.List.Sums.{AllPass-from_list_all}
+use Rattle.std.proofs.lemmas.Option.{get_or_from_slice_get, slice_get_within}
 use Rattle.saved_lines.specs.SavedValues.{HeadValues}
 use Rattle.saved_worlds.specs.SavedGrammar.{Placed, is_above, is_new}
 use Rattle.saved_worlds.specs.ValidState.{AreSaved, MayStandThere}
@@ -22,13 +22,6 @@ at_key a b = grind (arith, nat_tests)
 all_more : {X : Type 0} (test : X → Bool) (items : List X) (item : X)
     → list_all test (items ++ item ∷ []) ≡ (list_all test items && (test item && true))
 all_more test items item = list_all-append test items (item ∷ [])
-
--- not among the others and not the one
-either : (same known : Bool) → (not known && (not same && true)) ≡ not (cond same true known)
-either true true = refl
-either true false = refl
-either false true = refl
-either false false = refl
 
 module _ (placed : List Placed) (one : Placed) where
   -- above one more organism is what is above the others and it
@@ -50,7 +43,7 @@ module _ (placed : List Placed) (one : Placed) where
         fresh id,
         updates.0 id,
         at_key one.occupant.id id,
-      ) (either (one.occupant.id == id) (contains nat_cmp ids id))
+      ) (grind (arith, nat_tests))
 
 -- what stands at a place of a list with one item more
 at_more : {X : Type 0} (items : List X) (item other : X) (place : ℕ)
@@ -61,16 +54,6 @@ at_more [] item other (suc place) is = absurd cc
 at_more (x ∷ items) item other zero is = inl is
 at_more (x ∷ items) item other (suc place) is = elim (at_more items item other place is)
     [ inl before ↦ inl before | inr last ↦ inr (ap suc last.0, last.1) ]
-
--- a test that all pass is passed at each place
-pub all_at : {X : Type 0} (test : X → Bool) (items : List X) (item : X) (place : ℕ)
-    → list_all test items ≡ true → slice_get items place ≡ Some item → test item ≡ true
-all_at test [] item place all is = absurd cc
-all_at test (x ∷ items) item zero all is =
-    let same : x ≡ item = cc in
-    subst (λ y. test y ≡ true) same (and_parts (test x) (list_all test items) all).0
-all_at test (x ∷ items) item (suc place) all is =
-    all_at test items item place (and_parts (test x) (list_all test items) all).1 is
 
 -- one organism more, above the others and with a new id
 pub saved_more : (head : HeadValues) (placed : List Placed) (one : Placed) → AreSaved head placed
@@ -89,12 +72,13 @@ saved_more head placed one saved stands above fresh = record {
             ])
         | inr last ↦ elim (at_more placed one first place at_place) [
           | inl other ↦
-              (let lower = all_at (λ (p : Placed). nat_lt p.cell one.cell) placed first place above
-              other in
-              let new = all_at (λ (p : Placed). not (p.occupant.id == one.occupant.id)) placed
-              first place fresh other in
-              subst (λ (p : Placed). (first.cell < p.cell) × (first.occupant.id ≢ p.occupant.id))
-              last.1 (
+              (let there = slice_get_within placed place first other in
+              let same = get_or_from_slice_get placed place first first other in
+              let lower = rw same at (AllPass-from_list_all {X = Placed}
+              (λ p. nat_lt p.cell one.cell) placed above place first there) in
+              let new = rw same at (AllPass-from_list_all {X = Placed}
+              (λ p. not (p.occupant.id == one.occupant.id)) placed fresh place first there) in
+              rw (← last.1) (
                 grind (arith, nat_tests, lower),
                 λ same. grind (arith, nat_tests, new, same),
               ))

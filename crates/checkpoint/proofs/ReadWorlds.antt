@@ -8,7 +8,7 @@ use Rattle.saved_lines.specs.SavedForms.{HasSavedForm, IsMachineLine, IsOrganism
 use Rattle.saved_lines.specs.SavedReading.{saved_line_of}
 use Rattle.saved_lines.specs.SavedText.{SavedLine, Head, Organism, Machine, Count}
 use Rattle.saved_lines.specs.SavedValues.{HeadValues, OrganismValues}
-use Rattle.saved_worlds.specs.SavedGrammar.{SavedPlace, Before, Among, Halfway, After, Placed, after_saved_line, last_saved_piece, may_follow, may_stand, one_saved_piece, pieces_state, placed_of, saved_of, state_of_lines, told_saved_line}
+use Rattle.saved_worlds.specs.SavedGrammar.{SavedPlace, Before, Among, Halfway, After, Placed, after_saved_line, may_follow, may_stand, one_saved_piece, pieces_state, placed_of, saved_of, state_of_lines, told_saved_line}
 use Rattle.saved_worlds.specs.SavedState.{SavedState}
 use Rattle.saved_worlds.specs.declared.saved_stop.SavedStop.{SavedStop}
 use Rattle.saved_worlds.specs.ValidState.{AreSaved, IsHead, MayStandThere}
@@ -79,52 +79,33 @@ module _ (takes : TakesForms) (made : LinesAreWritable) where
   told_good (Halfway head placed o) next _ read good h = absurd cc
   told_good (After state) next line read good h = absurd cc
 
-  -- the end of the bytes
-  end_good : (number : ℕ) (place : SavedPlace) (state : SavedState) → IsGood place
-      → last_saved_piece number place [] ≡ Ok state → IsWritable state
-  end_good number (After state) other good h =
-      let same : state ≡ other = cc in subst IsWritable same good
-  end_good number _ other good h = absurd cc
+  module _ (number : ℕ) (place : SavedPlace) (others : SavedPlace → Result SavedState SavedStop)
+      (state : SavedState) (good : IsGood place)
+      (leads : (next : SavedPlace) → IsGood next → others next ≡ Ok state → IsWritable state) where
+    -- a place, and others
+    after_good : (line : SavedLine) (found : Option SavedPlace) → HasSavedForm line
+        → told_saved_line place line ≡ found → after_saved_line number found others ≡ Ok state
+        → IsWritable state
+    after_good line None read is h = absurd cc
+    after_good line (Some next) read is h = leads next (told_good place next line read good is) h
 
-  -- the last piece
-  last_good : (number : ℕ) (place : SavedPlace) (piece : List ℕ) (state : SavedState)
-      → IsGood place → last_saved_piece number place piece ≡ Ok state → IsWritable state
-  last_good number place [] state good h = end_good number place state good h
-  last_good number place (b ∷ bs) state good h = absurd cc
-
-  -- what the others make of each place
-  abbrev Leads : (SavedPlace → Result SavedState SavedStop) → SavedState → Type 0
-  Leads others state = (next : SavedPlace) → IsGood next → others next ≡ Ok state → IsWritable state
-
-  -- a place, and others
-  after_good : (number : ℕ) (place : SavedPlace) (line : SavedLine) (found : Option SavedPlace)
-      (others : SavedPlace → Result SavedState SavedStop) (state : SavedState) → HasSavedForm line
-      → IsGood place → told_saved_line place line ≡ found → Leads others state
-      → after_saved_line number found others ≡ Ok state → IsWritable state
-  after_good number place line None others state read good is leads h = absurd cc
-  after_good number place line (Some next) others state read good is leads h =
-      leads next (told_good place next line read good is) h
-
-  -- a piece, and others
-  piece_good : (number : ℕ) (place : SavedPlace) (piece : List ℕ) (found : Option SavedLine)
-      (others : SavedPlace → Result SavedState SavedStop) (state : SavedState) → IsGood place
-      → saved_line_of piece ≡ found → Leads others state
-      → one_saved_piece number place found others ≡ Ok state → IsWritable state
-  piece_good number place piece None others state good is leads h = absurd cc
-  piece_good number place piece (Some line) others state good is leads h =
-      after_good number place line (told_saved_line place line) others state
-      (takes piece line is) good refl leads h
+    -- a piece, and others
+    piece_good : (piece : List ℕ) (found : Option SavedLine) → saved_line_of piece ≡ found
+        → one_saved_piece number place found others ≡ Ok state → IsWritable state
+    piece_good piece None is h = absurd cc
+    piece_good piece (Some line) is h =
+        after_good line (told_saved_line place line) (takes piece line is) refl h
 
   -- all pieces
   pieces_good : (number : ℕ) (place : SavedPlace) (pieces : List (List ℕ)) (state : SavedState)
       → IsGood place → pieces_state number place pieces ≡ Ok state → IsWritable state
-  pieces_good number place [] state good h = absurd cc
-  pieces_good number place (piece ∷ []) state good h =
-      last_good number place piece state good h
   pieces_good number place (piece ∷ next ∷ pieces) state good h =
-      piece_good number place piece (saved_line_of piece)
-      (λ p. pieces_state (number + 1) p (next ∷ pieces)) state good refl
-      (λ p is led. pieces_good (number + 1) p (next ∷ pieces) state is led) h
+      piece_good number place (λ p. pieces_state (number + 1) p (next ∷ pieces)) state good
+      (λ p is led. pieces_good (number + 1) p (next ∷ pieces) state is led) piece _ refl h
+  pieces_good number (After state) ([] ∷ []) other good h =
+      let same : state ≡ other = cc in subst IsWritable same good
+  pieces_good number _ ([] ∷ []) state good h = absurd cc
+  pieces_good number _ _ state good h = absurd cc
 
   -- the state of the bytes of a saved world
   pub read_writable : (bytes : List ℕ) (state : SavedState) → saved_of bytes ≡ Ok state

@@ -1,10 +1,12 @@
 -- The organism of two lines that may come may stand in its cell.
-use Rattle.std.proofs.Common.{◌≡◌, ℕ, ℤ, zero, suc, ◌<◌, ◌≤◌, ◌*◌, true, List, [], ◌∷◌, length, refl, arith, pos}
-use Rattle.std.specs.List.{AllByRecursion, list_all}
-use Rattle.std.specs.Prelude.{All, ◌^◌, nat_lt, slice_index_or, if◌then◌else◌, FitsSigned}
+use Rattle.std.proofs.Common.{◌≡◌, ℕ, ℤ, ◌<◌, ◌≤◌, ◌*◌, true, List, [], ◌∷◌, length, refl, arith, pos}
+use Rattle.std.specs.List.{AllByRecursion}
+use Rattle.std.specs.Prelude.{All, ◌^◌, nat_lt, if◌then◌else◌, FitsSigned}
 use Rattle.std.specs.Int.{w32}
-use Rattle.std.proofs.lemmas.Bool.{and_parts, eqb-true, leb-true, ltb-true}
+use Rattle.std.proofs.lemmas.Bool.{and_parts, ltb-true}
+use Rattle.std.proofs.lemmas.Bool.Decides.{nat_tests}
 use Rattle.std.proofs.lemmas.List.Elements.{All-cons, All-from_recursion}
+use Rattle.std.proofs.lemmas.List.Sums.{AllPass-from_list_all}
 use Rattle.virtual_cpu.specs.declared.cpu_image.CpuImage.{CpuImage}
 use Rattle.virtual_cpu.specs.Image.{machine_of_image}
 use Rattle.virtual_cpu.specs.Machine.{IsMachine}
@@ -31,30 +33,7 @@ pub record Stands (head : HeadValues) (placed : List Placed) (o : OrganismValues
 -- so they say of a line that may come
 pub stands_by_rules : (head : HeadValues) (placed : List Placed) (o : OrganismValues)
     → may_stand head placed o ≡ true → Stands head placed o
-stands_by_rules head placed o is =
-    let by_young = and_parts _ _ is in
-    let by_age = and_parts _ _ by_young.0 in
-    let by_size = and_parts _ _ by_age.0 in
-    let by_merit = and_parts _ _ by_size.0 in
-    let by_fresh = and_parts _ _ by_merit.0 in
-    let by_id = and_parts _ _ by_fresh.0 in
-    let by_cell = and_parts _ _ by_id.0 in
-    let merits = and_parts _ _ by_merit.1 in
-    let sizes = and_parts _ _ by_size.1 in
-    let ages = and_parts _ _ by_age.1 in
-    record {
-      cell = ltb-true o.cell (head.width * head.height) by_cell.0;
-      above = by_cell.1;
-      id = ltb-true o.id head.next_id by_id.1;
-      fresh = by_fresh.1;
-      some_merit = leb-true 1 o.merit merits.0;
-      merit = leb-true o.merit (2 ^ 38) merits.1;
-      least = leb-true head.rules.least (length o.genome) sizes.0;
-      greatest = leb-true (length o.genome) head.rules.greatest sizes.1;
-      age = ltb-true o.age (2 ^ 48) ages.0;
-      read = leb-true o.read o.age ages.1;
-      young = by_young.1;
-    }
+stands_by_rules head placed o is = grind (arith, nat_tests, and_parts)
 
 -- what each rule of a machine's line says
 pub record Follows (head : HeadValues) (o : OrganismValues) (image : CpuImage) : Type 0 where
@@ -68,32 +47,7 @@ pub record Follows (head : HeadValues) (o : OrganismValues) (image : CpuImage) :
 -- so they say of a line that may follow
 pub follows_by_rules : (head : HeadValues) (o : OrganismValues) (image : CpuImage)
     → may_follow head o image ≡ true → Follows head o image
-follows_by_rules head o image is =
-    let size = length image.memory in
-    let most = (if image.pending then 6 else 2) * length o.genome in
-    let by_heads = and_parts _ _ is in
-    let by_growth = and_parts _ _ by_heads.0 in
-    let by_limit = and_parts _ _ by_growth.0 in
-    let by_copied = and_parts _ _ by_limit.0 in
-    let by_clean = and_parts _ _ by_copied.0 in
-    record {
-      clean = eqb-true (length image.clean) size by_clean.0;
-      executed = eqb-true (length image.executed) size by_clean.1;
-      copied = eqb-true (length image.copied) size by_copied.1;
-      limit = leb-true size head.memory_limit by_limit.1;
-      growth = leb-true size most by_growth.1;
-      heads = by_heads.1;
-    }
-
--- a head that is among those within a length is below it
-head_within : (heads : List ℕ) (end place : ℕ) → list_all (λ head. nat_lt head end) heads ≡ true
-    → place < length heads → slice_index_or heads place 0 < end
-head_within [] end place all there = absurd (omega (arith, there))
-head_within (head ∷ heads) end zero all there =
-    ltb-true head end (and_parts (nat_lt head end) (list_all (λ h. nat_lt h end) heads) all).0
-head_within (head ∷ heads) end (suc place) all there =
-    head_within heads end place
-    (and_parts (nat_lt head end) (list_all (λ h. nat_lt h end) heads) all).1 (omega (arith, there))
+follows_by_rules head o image is = grind (arith, nat_tests, and_parts)
 
 module _ (head : HeadValues) (o : OrganismValues) (image : CpuImage) where
   -- the machine of two lines is one
@@ -103,7 +57,8 @@ module _ (head : HeadValues) (o : OrganismValues) (image : CpuImage) where
   is_machine in_range short read follows =
       let size = length image.memory in
       let at = λ (place : ℕ) (few : place < 4).
-      head_within image.heads size place follows.heads (omega (arith, few, read.heads.0)) in
+      ltb-true _ size (AllPass-from_list_all (λ head. nat_lt head size) image.heads follows.heads
+      place 0 (omega (arith, few, read.heads.0))) in
       record {
         clean = follows.clean;
         executed = follows.executed;
@@ -142,12 +97,6 @@ module _ (head : HeadValues) (o : OrganismValues) (image : CpuImage) where
             (words image.second read.second.1) (λ k d none. absurd (omega (arith, none))));
       }
 
-  -- its age is below the age of death
-  young_there : head.death ≡ true → is_young head o ≡ true
-      → o.age < head.age_limit * length o.genome
-  young_there death young =
-      let below = rw death at young in ltb-true o.age (head.age_limit * length o.genome) below
-
   -- the organism of two lines may stand in its cell
   pub may_stand_there : (placed : List Placed) → IsHead head → IsOrganismLine o
       → IsMachineLine image → Stands head placed o → Follows head o image
@@ -166,7 +115,7 @@ module _ (head : HeadValues) (o : OrganismValues) (image : CpuImage) where
       id = stands.id;
       genome = (stands.least, stands.greatest);
       age = stands.age;
-      young = λ death. young_there death stands.young;
+      young = λ death. ltb-true _ _ (rw death at stands.young);
       limit = refl;
       credited = organism.credited;
       gestation = organism.gestation;
