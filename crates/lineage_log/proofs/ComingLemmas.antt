@@ -93,32 +93,29 @@ module _ (before mid : List (ℕ × NodeValue)) (id : ℕ) (new : NodeValue) (ar
         );
       }
 
-  module _ (after : List (ℕ × NodeValue)) (above : ℕ) (parent more : NodeValue)
+  module _ (after : List (ℕ × NodeValue)) (above : ℕ) (parent : NodeValue)
       (child : new.parent ≡ Some above) (older : above < id)
       (above_is : node_at before above ≡ Some parent)
-      (raised : more ≡ record parent { children = parent.children + 1 })
-      (set : IsSet mid after above more) where
+      (set : IsSet mid after above (record parent { children = parent.children + 1 })) where
     -- the newcomer is not its parent
     differs : id ≢ above
     differs same = omega (arith, same, older)
 
     -- the parent is as it should be
-    fit_parent : IsInFamily after above more
+    fit_parent : IsInFamily after above (record parent { children = parent.children + 1 })
     fit_parent =
         let fits = are.families.each above parent above_is in
-        let same : more.parent ≡ parent.parent = ap (λ (n : NodeValue). n.parent) raised in
         record {
-          older = λ higher h. fits.older higher (sym same ∙ h);
-          there = λ higher h. still_there mid after above more higher (set.at higher)
-              (stays higher (fits.there higher (sym same ∙ h)));
-          counted = ap (λ (n : NodeValue). n.children) raised
-              ∙ omega (
-                arith,
-                fits.counted,
-                set.kids above,
-                come.kids above,
-                child_is above new child,
-              );
+          older = fits.older;
+          there = λ higher h. still_there mid after above _ higher (set.at higher)
+              (stays higher (fits.there higher h));
+          counted = omega (
+            arith,
+            fits.counted,
+            set.kids above,
+            come.kids above,
+            child_is above new child,
+          );
         }
 
     -- so is the child
@@ -126,7 +123,7 @@ module _ (before mid : List (ℕ × NodeValue)) (id : ℕ) (new : NodeValue) (ar
     fit_child = record {
       older = λ higher h. let same : above ≡ higher = cc in omega (arith, older);
       there = λ higher h. let same : above ≡ higher = cc in
-          still_there mid after above more higher (set.at higher)
+          still_there mid after above _ higher (set.at higher)
           (stays higher (is_there (node_at before higher) parent (rw (← same) above_is)));
       counted = omega (
         arith,
@@ -144,7 +141,7 @@ module _ (before mid : List (ℕ × NodeValue)) (id : ℕ) (new : NodeValue) (ar
       families = record {
         rising = set.rising;
         each = λ other node has.
-            elim (found_new mid after above more other node (set.at other) has) [
+            elim (found_new mid after above _ other node (set.at other) has) [
               | inl one ↦ rw (← one.0, ← one.1) fit_parent
               | inr far ↦ elim (come_from other node far.1) [
                 | inl here ↦ rw (← here.0, ← here.1) fit_child
@@ -152,7 +149,7 @@ module _ (before mid : List (ℕ × NodeValue)) (id : ℕ) (new : NodeValue) (ar
                     let fits = are.families.each other node apart.1 in
                     record {
                       older = fits.older;
-                      there = λ higher h. still_there mid after above more higher (set.at higher)
+                      there = λ higher h. still_there mid after above _ higher (set.at higher)
                           (stays higher (fits.there higher h));
                       counted = omega (
                         arith,
@@ -166,8 +163,8 @@ module _ (before mid : List (ℕ × NodeValue)) (id : ℕ) (new : NodeValue) (ar
             ];
       };
       needed = λ other node has dies hole.
-          elim (found_new mid after above more other node (set.at other) has) [
-            | inl one ↦ rw (← one.1) (omega (arith, ap (λ (n : NodeValue). n.children) raised))
+          elim (found_new mid after above _ other node (set.at other) has) [
+            | inl one ↦ rw (← one.1) (omega arith)
             | inr far ↦ elim (come_from other node far.1) [
               | inl here ↦ absurd (let same = here.1 in cc)
               | inr apart ↦ are.needed other node apart.1 dies hole
@@ -241,11 +238,15 @@ pub has_room : (before mid : List (ℕ × NodeValue)) (link : Link) (new : NodeV
     (node : NodeValue) → AreNodes before → Comes before mid link new → length before < bound
     → node_at mid id ≡ Some node → node.children < bound
 has_room before mid link new bound id node are is few there =
-    elim (found_new before mid link.id new id node (is.come.at id) there) [
-      | inl here ↦ omega (arith, few, is.childless, ap (λ (n : NodeValue). n.children) here.1)
-      | inr apart ↦
-          omega (arith, few, (are.families.each id node apart.1).counted, children_few before id)
-    ]
+    let counted : node_at before id ≡ Some node → node.children ≡ children_of before id =
+    λ old. (are.families.each id node old).counted in
+    grind (
+      arith,
+      found_new before mid link.id new id node (is.come.at id) there,
+      is.childless,
+      counted,
+      children_few before id,
+    )
 
 -- a child enters
 pub child_enters : (before mid after : List (ℕ × NodeValue)) (link : Link) (new : NodeValue)
@@ -259,22 +260,14 @@ child_enters before mid after link new above are can is child raise =
     some_of (node_at before above) (sym (is_some_link before above) ∙ can.there above child) in
     let parent = found.0 in
     let older = newest_above before link.id above parent can.newest found.1 in
-    let stays : node_at mid above ≡ Some parent = is.come.at above ∙ apart older ∙ found.1 in
+    let stays : node_at mid above ≡ Some parent =
+    grind (arith, is.come.at above, by_key link.id above, older, found.1) in
     let e = raise parent stays in
-    let more : NodeValue = record parent { children = parent.children + 1 } in
-    let set = set_is mid after above parent more is.come.rising stays refl e in (
+    let set = set_is mid after above parent _ is.come.rising stays refl e in (
       child_comes before mid link.id new are is.none is.childless is.lives is.come after above
-          parent
-          more (is.parent ∙ child) older found.1 refl set,
+          parent (is.parent ∙ child) older found.1 set,
       tree_set mid after above (parent.children + 1) parent stays e ∙ is.tree,
     )
-  where
-    apart : above < link.id → cond (is_at (nat_cmp link.id) above) (Some new) (node_at before above)
-        ≡ node_at before above
-    apart older = elim (by_key link.id above) [
-      | inl here ↦ absurd (omega (arith, older, here.0))
-      | inr far ↦ rw far.1
-    ]
 
 -- a founder enters
 pub founder_enters : (before mid : List (ℕ × NodeValue)) (link : Link) (new : NodeValue)

@@ -17,10 +17,7 @@ remove_once_set : (nodes : List (ℕ × NodeValue)) (id : ℕ) (node : NodeValue
     → remove_entry (is_at (nat_cmp id)) (set_value (is_at (nat_cmp id)) nodes node)
     ≡ remove_entry (is_at (nat_cmp id)) nodes
 remove_once_set [] id node = refl
-remove_once_set (e ∷ es) id node = elim (by_key id e.0) [
-  | inl here ↦ rw here.1 (rw here.1)
-  | inr apart ↦ rw apart.1 (rw (apart.1, remove_once_set es id node))
-]
+remove_once_set (e ∷ es) id node = grind (arith, by_key id e.0, remove_once_set es id node)
 
 -- ---- one node more goes, or none
 
@@ -82,10 +79,8 @@ module _ (start before mid after : List (ℕ × NodeValue)) (id : ℕ) (old new 
     (fewer : AreFewer start mid) (settled : Settles before after id new next) where
   -- what stands there once it was changed
   new_at : node_at mid id ≡ Some new
-  new_at = elim (by_key id id) [
-    | inl here ↦ rw here.1 at ((set_is before mid id old new rising is same set).at id)
-    | inr apart ↦ absurd (apart.0 refl)
-  ]
+  new_at =
+      grind (arith, by_key id id, (set_is before mid id old new rising is same set).at id)
 
   -- it is needed and stays
   stays : is_needed new ≡ true → Go start after next
@@ -161,11 +156,8 @@ module _ (start before mid after : List (ℕ × NodeValue)) (id : ℕ) (old new 
 
   -- who is next has a lower id
   go_up : option_map_or suc next 0 < suc id
-  go_up = elim (cases_Bool (is_needed new)) [
-    | inl wanted ↦ rw (rw wanted at settled.above) (omega arith)
-    | inr vain ↦ rw (rw vain at settled.above)
-        (parent_lower mid id new new.parent families new_at refl)
-  ]
+  go_up =
+      grind (arith, settled.above, parent_lower mid id new new.parent families new_at refl)
 
 -- ---- from the first to the last
 

@@ -137,13 +137,7 @@ module _ (everyone : List Link) (living : List ℕ) (link : Link) (older : AreOl
       → ancestors_within n (parent_of more) id ≡ ancestors_within n (parent_of everyone) id
   ancestors_before zero id low = refl
   ancestors_before (suc n) id low =
-      rw (parent_before id low) (elim (cases_Option (parent_of everyone id)) [
-        | inl none ↦ rw none
-        | inr some ↦ rw (
-          some.1,
-          ancestors_before n some.0 (omega (arith, low, older id some.0 some.1)),
-        )
-      ])
+      grind (arith, common_steps, parent_before id low, older id, ancestors_before n)
 
   -- the living have lower ids
   contains_below : (id : ℕ) → Contains living id → id < link.id

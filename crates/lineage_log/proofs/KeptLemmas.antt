@@ -1,11 +1,11 @@
 -- Where each node is needed, the links that are left are those of the living and of their
 -- ancestors.
-use Rattle.std.proofs.Common.{◌≡◌, zero, eq-eqb, inl, inr, ◌∙◌, refl, sym, ap, true≢false, ℕ, suc, ◌<◌, Bool, true, false, cond, List, [], ◌∷◌, ◌++◌, append_assoc, length, get_or, Option, Some, None, nat_cmp, arith}
+use Rattle.std.proofs.Common.{◌≡◌, zero, eq-eqb, inl, inr, ◌∙◌, refl, sym, ap, ℕ, suc, ◌<◌, Bool, true, false, cond, List, [], ◌∷◌, ◌++◌, append_assoc, length, get_or, Option, Some, None, nat_cmp, arith}
 use Rattle.std.specs.Prelude.{All, Contains, IfSome, IsSome, filter, filter_map, is_some, option_and_then}
 use Rattle.std.specs.BTreeMap.{is_at}
 use Rattle.std.specs.Map.{set_value}
 use Rattle.std.specs.Option.{option_map_or}
-use Rattle.std.proofs.lemmas.Bool.{cases_Bool, false_from_ne_true}
+use Rattle.std.proofs.lemmas.Bool.{cases_Bool}
 use Rattle.std.proofs.lemmas.Bool.Decides.{nat_tests}
 use Rattle.std.proofs.lemmas.Grind.{common_steps}
 use Rattle.lineage_log.specs.Links.{Link}
@@ -42,6 +42,13 @@ found_at (link ∷ links) zero d low = rw (eq-eqb link.id link.id refl)
 found_at (link ∷ links) (suc k) d low =
     grind (arith, common_steps, found_at links k d (omega (arith, low)))
 
+-- a parent has a lower id
+nodes_older : (nodes : List (ℕ × NodeValue)) → AreFamilies nodes
+    → Older (parent_of (links_of nodes))
+nodes_older nodes are id above is =
+    let node = node_told nodes id above is in
+    (are.each id node.0 node.1).older above node.2
+
 module _ (before after : List (ℕ × NodeValue)) (old : AreFamilies before) (new : AreNodes after)
     (fewer : AreFewer before after) where
   -- an id has a node then
@@ -67,12 +74,6 @@ module _ (before after : List (ℕ × NodeValue)) (old : AreFamilies before) (ne
   same_parent : (id : ℕ) → is_some (node_at after id) ≡ true
       → parent_of (links_of after) id ≡ parent_of (links_of before) id
   same_parent id h = ap (option_and_then (λ (link : Link). link.parent)) (same_link id h)
-
-  -- parents were older
-  pub older_before : Older (parent_of (links_of before))
-  older_before id above is =
-      let node = node_told before id above is in
-      (old.each id node.0 node.1).older above node.2
 
   -- with each of them its parent is left
   pub are_left : AreLeft (parent_of (links_of before)) (parent_of (links_of after)) has
@@ -110,13 +111,17 @@ module _ (before after : List (ℕ × NodeValue)) (old : AreFamilies before) (ne
   -- who is kept is who is left
   pub kept_is : (id : ℕ) → is_kept (links_of before) (living_ids_of after) id
       ≡ is_some (node_at after id)
-  kept_is id = elim (cases_Bool (is_some (node_at after id))) [
-    | inl inside ↦ wanted_kept (parent_of (links_of before)) has (living_ids_of after) older_before
-        wanted (top_of after) (top_of after) id (below_top after) (omega arith) inside ∙ sym inside
-    | inr out ↦ false_from_ne_true (is_kept (links_of before) (living_ids_of after) id)
-        (λ h. true≢false (sym (kept_left (parent_of (links_of before)) (parent_of (links_of after))
-        has older_before are_left (living_ids_of after) id lives_left h) ∙ out)) ∙ sym out
-  ]
+  kept_is id =
+      let older = nodes_older before old in
+      let keeps : is_some (node_at after id) ≡ true
+      → is_kept (links_of before) (living_ids_of after) id ≡ true =
+      wanted_kept (parent_of (links_of before)) has (living_ids_of after) older wanted
+      (top_of after) (top_of after) id (below_top after) (omega arith) in
+      let left : is_kept (links_of before) (living_ids_of after) id ≡ true
+      → is_some (node_at after id) ≡ true =
+      kept_left (parent_of (links_of before)) (parent_of (links_of after)) has older are_left
+      (living_ids_of after) id lives_left in
+      grind (arith, keeps, left)
     where
       lives_left : (one : ℕ) → Contains (living_ids_of after) one
           → is_some (node_at after one) ≡ true
@@ -130,15 +135,12 @@ module _ (before after : List (ℕ × NodeValue)) (old : AreFamilies before) (ne
   links_kept = fewer.links
       ∙ filter_alike (λ (link : Link). fewer.left link.id)
       (λ (link : Link). is_kept (links_of before) (living_ids_of after) link.id) (links_of before)
-      (λ k d low. all (link_of (links_of before) (get_or (links_of before) k d).id)
-      (fewer.left (get_or (links_of before) k d).id) (found_at (links_of before) k d low)
-      ∙ sym (has_is (get_or (links_of before) k d).id)
-      ∙ sym (kept_is (get_or (links_of before) k d).id))
-    where
-      all : (found : Option Link) (b : Bool) → is_some found ≡ true
-          → b ≡ is_some (cond b found None)
-      all found true some = sym some
-      all found false some = refl
+      (λ k d low. grind (
+        arith,
+        found_at (links_of before) k d low,
+        has_is (get_or (links_of before) k d).id,
+        kept_is (get_or (links_of before) k d).id,
+      ))
 
 -- the links of nodes are kept
 pub nodes_kept : (nodes : List (ℕ × NodeValue)) → AreNodes nodes → IsPruned (tree_of nodes)
@@ -204,13 +206,6 @@ buried before mid after id lays are fewer =
     λ i. record { links = links i; living = living i }
 
 -- ---- the line of an organism
-
--- a parent has a lower id
-pub nodes_older : (nodes : List (ℕ × NodeValue)) → AreFamilies nodes
-    → Older (parent_of (links_of nodes))
-nodes_older nodes are id above is =
-    let node = node_told nodes id above is in
-    (are.each id node.0 node.1).older above node.2
 
 -- the genome of an organism of a tree is that of its node
 pub genome_there : (nodes : List (ℕ × NodeValue)) (id : ℕ) (node : NodeValue)

@@ -1,10 +1,11 @@
 -- Who lives among the nodes of a tree, and what is left when a node comes, changes or goes.
-use Rattle.std.proofs.Common.{◌≡◌, inl, inr, ⊎_elim, ◌∙◌, refl, sym, ap, ℕ, zero, suc, ◌<◌, Bool, true, false, not, eqb, List, [], ◌∷◌, ◌++◌, Some, None, nat_cmp, Greater, eq-eqb, ne_eqb, arith}
+use Rattle.std.proofs.Common.{◌≡◌, inl, inr, ⊎_elim, ◌∙◌, refl, sym, ap, ℕ, zero, suc, ◌<◌, Bool, true, false, not, eqb, List, [], ◌∷◌, ◌++◌, Some, None, nat_cmp, Greater, arith}
 use Rattle.std.specs.Prelude.{All, Contains, filter}
 use Rattle.std.specs.BTreeMap.{insert_entry, is_at}
 use Rattle.std.specs.Cmp.{nat_cmp_is}
 use Rattle.std.specs.Map.{keys_of, remove_entry, set_value}
 use Rattle.std.proofs.lemmas.Bool.{cases_Bool, cond-true}
+use Rattle.std.proofs.lemmas.Bool.Decides.{nat_tests}
 use Rattle.std.proofs.lemmas.List.{map_push}
 use Rattle.std.proofs.lemmas.List.Elements.{filter-append}
 use Rattle.std.proofs.lemmas.Map.Keys.{sorted_tail}
@@ -83,11 +84,13 @@ pub newest_above : (nodes : List (ℕ × NodeValue)) (id other : ℕ) (node : No
     → All (λ (link : Link). link.id < id) (links_of nodes) → node_at nodes other ≡ Some node
     → other < id
 newest_above [] id other node newest is = absurd cc
-newest_above (e ∷ es) id other node newest is = elim (by_key other e.0) [
-  | inl here ↦ omega (arith, here.0, newest 0 (node_link e.0 e.1) (omega arith))
-  | inr apart ↦ newest_above es id other node (λ k d low. newest (suc k) d (omega (arith, low)))
-      (sym (other_node e es other apart.1) ∙ is)
-]
+newest_above (e ∷ es) id other node newest is =
+    grind (
+      arith,
+      by_key other e.0,
+      newest 0 (node_link e.0 e.1) (omega arith),
+      newest_above es id other node (λ k d low. newest (suc k) d (omega (arith, low))),
+    )
 
 -- no node has it
 pub none_newest : (nodes : List (ℕ × NodeValue)) (id : ℕ)
@@ -119,69 +122,50 @@ pub links_set : (nodes : List (ℕ × NodeValue)) (id : ℕ) (old new : NodeValu
     → node_at nodes id ≡ Some old → ((key : ℕ) → node_link key new ≡ node_link key old)
     → links_of (set_value (is_at (nat_cmp id)) nodes new) ≡ links_of nodes
 links_set [] id old new is same = refl
-links_set (e ∷ es) id old new is same = elim (by_key id e.0) [
-  | inl here ↦
-      let first : e.1 ≡ old = cc (first_node e es id here.1) in
-      rw here.1 (ap (λ (link : Link). link ∷ links_of es)
-      (same e.0 ∙ ap (node_link e.0) (sym first)))
-  | inr apart ↦ rw
-      (apart.1, links_set es id old new (sym (other_node e es id apart.1) ∙ is) same)
-]
+links_set (e ∷ es) id old new is same =
+    grind (
+      arith,
+      by_key id e.0,
+      same e.0,
+      λ (there : node_at es id ≡ Some old).
+          links_set es id old new there same,
+    )
 
 -- who lives stays where it lives as before
 pub living_set : (nodes : List (ℕ × NodeValue)) (id : ℕ) (old new : NodeValue)
     → node_at nodes id ≡ Some old → new.lives ≡ old.lives
     → living_ids_of (set_value (is_at (nat_cmp id)) nodes new) ≡ living_ids_of nodes
 living_set [] id old new is same = refl
-living_set (e ∷ es) id old new is same = elim (by_key id e.0) [
-  | inl here ↦
-      let lives : new.lives ≡ e.1.lives = cc (first_node e es id here.1) in
-      rw here.1 (elim (cases_Bool e.1.lives) [
-        | inl living ↦ rw (living, lives ∙ living)
-        | inr dying ↦ rw (dying, lives ∙ dying)
-      ])
-  | inr apart ↦
-      let rest = living_set es id old new (sym (other_node e es id apart.1) ∙ is) same in
-      rw apart.1 (elim (cases_Bool e.1.lives) [
-        | inl living ↦ rw (living, rest)
-        | inr dying ↦ rw (dying, rest)
-      ])
-]
+living_set (e ∷ es) id old new is same =
+    grind (
+      arith,
+      by_key id e.0,
+      λ (there : node_at es id ≡ Some old).
+          living_set es id old new there same,
+    )
 
 -- an id that is no node's isn't left out
 without_none : (nodes : List (ℕ × NodeValue)) (id : ℕ) → node_at nodes id ≡ None
     → without_id id (living_ids_of nodes) ≡ living_ids_of nodes
 without_none [] id none = refl
-without_none (e ∷ es) id none = elim (by_key id e.0) [
-  | inl here ↦ absurd (let some = first_node e es id here.1 in cc)
-  | inr apart ↦
-      let rest = without_none es id (sym (other_node e es id apart.1) ∙ none) in
-      elim (cases_Bool e.1.lives) [
-        | inl living ↦ rw (living, ne_eqb e.0 id (λ same. apart.0 (sym same)), rest)
-        | inr dying ↦ rw dying rest
-      ]
-]
+without_none (e ∷ es) id none =
+    grind (arith, nat_tests, by_key id e.0, without_none es id)
 
 -- one that dies is left out of the living
 pub living_dead : (nodes : List (ℕ × NodeValue)) (id : ℕ) (old new : NodeValue) → Rises nodes
     → node_at nodes id ≡ Some old → new.lives ≡ false
     → living_ids_of (set_value (is_at (nat_cmp id)) nodes new) ≡ without_id id (living_ids_of nodes)
 living_dead [] id old new rising is dead = refl
-living_dead (e ∷ es) id old new rising is dead = elim (by_key id e.0) [
-  | inl here ↦
-      let none = without_none es id (none_behind e es id rising here.1) in
-      rw (here.1, dead) (elim (cases_Bool e.1.lives) [
-        | inl living ↦ rw (living, eq-eqb e.0 id (sym here.0), none)
-        | inr dying ↦ rw (dying, none)
-      ])
-  | inr apart ↦
-      let rest = living_dead es id old new (sorted_tail nat_cmp e.0 (keys_of es) rising)
-      (sym (other_node e es id apart.1) ∙ is) dead in
-      rw apart.1 (elim (cases_Bool e.1.lives) [
-        | inl living ↦ rw (living, ne_eqb e.0 id (λ same. apart.0 (sym same)), rest)
-        | inr dying ↦ rw (dying, rest)
-      ])
-]
+living_dead (e ∷ es) id old new rising is dead =
+    grind (
+      arith,
+      nat_tests,
+      by_key id e.0,
+      none_behind e es id rising,
+      without_none es id,
+      λ (there : node_at es id ≡ Some old).
+          living_dead es id old new (sorted_tail nat_cmp e.0 (keys_of es) rising) there dead,
+    )
 
 -- ---- a node that goes
 
@@ -190,40 +174,31 @@ pub living_gone : (nodes : List (ℕ × NodeValue)) (id : ℕ) (old : NodeValue)
     → node_at nodes id ≡ Some old → old.lives ≡ false
     → living_ids_of (remove_entry (is_at (nat_cmp id)) nodes) ≡ living_ids_of nodes
 living_gone [] id old is dead = refl
-living_gone (e ∷ es) id old is dead = elim (by_key id e.0) [
-  | inl here ↦
-      let first : e.1.lives ≡ false = cc (first_node e es id here.1) in rw (here.1, first)
-  | inr apart ↦
-      let rest = living_gone es id old (sym (other_node e es id apart.1) ∙ is) dead in
-      rw apart.1 (elim (cases_Bool e.1.lives) [
-        | inl living ↦ rw (living, rest)
-        | inr dying ↦ rw (dying, rest)
-      ])
-]
+living_gone (e ∷ es) id old is dead =
+    grind (
+      arith,
+      by_key id e.0,
+      λ (there : node_at es id ≡ Some old).
+          living_gone es id old there dead,
+    )
 
 -- an id that is no node's leaves out no link
 links_none : (nodes : List (ℕ × NodeValue)) (id : ℕ) → node_at nodes id ≡ None
     → filter (λ (link : Link). not (eqb link.id id)) (links_of nodes) ≡ links_of nodes
 links_none [] id none = refl
-links_none (e ∷ es) id none = elim (by_key id e.0) [
-  | inl here ↦ absurd (let some = first_node e es id here.1 in cc)
-  | inr apart ↦ rw (
-    ne_eqb e.0 id (λ same. apart.0 (sym same)),
-    links_none es id (sym (other_node e es id apart.1) ∙ none),
-  )
-]
+links_none (e ∷ es) id none = grind (arith, nat_tests, by_key id e.0, links_none es id)
 
 -- its link is left out
 pub links_gone : (nodes : List (ℕ × NodeValue)) (id : ℕ) → Rises nodes
     → links_of (remove_entry (is_at (nat_cmp id)) nodes)
     ≡ filter (λ (link : Link). not (eqb link.id id)) (links_of nodes)
 links_gone [] id rising = refl
-links_gone (e ∷ es) id rising = elim (by_key id e.0) [
-  | inl here ↦ rw (here.1, eq-eqb e.0 id (sym here.0))
-      (sym (links_none es id (none_behind e es id rising here.1)))
-  | inr apart ↦ rw (
-    apart.1,
-    ne_eqb e.0 id (λ same. apart.0 (sym same)),
-    links_gone es id (sorted_tail nat_cmp e.0 (keys_of es) rising),
-  )
-]
+links_gone (e ∷ es) id rising =
+    grind (
+      arith,
+      nat_tests,
+      by_key id e.0,
+      none_behind e es id rising,
+      links_none es id,
+      links_gone es id (sorted_tail nat_cmp e.0 (keys_of es) rising),
+    )

@@ -1,6 +1,6 @@
 -- A good list of lines has a text that is read as that list, and what is read as a list is the text
 -- of a good one.
-use Rattle.std.proofs.Common.{◌≡◌, ℕ, ◌+◌, List, [], ◌∷◌, Option, Some, None, Result, Ok, Err, refl, sym, subst, ◌∙◌, append_assoc, inl, inr}
+use Rattle.std.proofs.Common.{◌≡◌, ℕ, ◌+◌, List, [], ◌∷◌, Option, Some, Result, Ok, Err, refl, ◌∙◌, arith, append_assoc, inl, inr}
 use Rattle.std.specs.Prelude.{◌==◌}
 use Rattle.std.specs.List.{slice_split, onto_first, AllByRecursion, join_with_byte}
 use Rattle.std.proofs.lemmas.Bool.{cases_Bool}
@@ -14,7 +14,7 @@ use Rattle.lineage_log.specs.declared.log_stop.LogStop.{LogStop}
 use Rattle.lineage_log.specs.declared.reason.Reason.{Reason}
 use Rattle.lineage_log.specs.Reader.{Reader}
 use Rattle.lineage_log.specs.Order.{LogPlace, Before, After, told, and_on, told_all, IsWhole}
-use Rattle.lineage_log.specs.LogGrammar.{last_piece, with_line, after_told, one_piece, pieces_log, log_of, lines_text, IsGoodLog}
+use Rattle.lineage_log.specs.LogGrammar.{last_piece, one_piece, pieces_log, log_of, lines_text, IsGoodLog}
 
 -- the pieces between newlines
 abbrev pub cut : List ℕ → List (List ℕ)
@@ -82,28 +82,14 @@ end_read number (After r) lines is = let e : [] ≡ lines = cc in
     rw (← e) (record { text = refl; fits = tt; whole = tt })
 end_read number _ lines is = absurd cc
 
--- lines that are read with a line in front are that line and the others that are read
-with_is : (line : Line) (others : Result (List Line) LogStop) (lines : List Line)
-    → with_line line others ≡ Ok lines → (rest : List Line) × (others ≡ Ok rest)
-    × (line ∷ rest ≡ lines)
-with_is line (Ok rest) lines is = (rest, refl, cc)
-with_is line (Err e) lines is = absurd cc
-
--- where a line and the others were read, the line was told, and they were read from there
-told_is : (number : ℕ) (line : Line) (t : Result LogPlace Reason)
-    (others : LogPlace → Result (List Line) LogStop) (lines : List Line)
-    → after_told number line t others ≡ Ok lines → (p : LogPlace) × (t ≡ Ok p)
-    × (with_line line (others p) ≡ Ok lines)
-told_is number line (Ok p) others lines is = (p, refl, is)
-told_is number line (Err e) others lines is = absurd cc
-
--- where a piece and the others were read, the piece is the text of a line
+-- where a piece and the others were read, the piece is the text of a line, which was told, and the
+-- others were read from there
 piece_is : (number : ℕ) (place : LogPlace) (o : Option Line)
     (others : LogPlace → Result (List Line) LogStop) (lines : List Line)
-    → one_piece number place o others ≡ Ok lines → (line : Line) × (o ≡ Some line)
-    × (after_told number line (told place line) others ≡ Ok lines)
-piece_is number place None others lines is = absurd cc
-piece_is number place (Some line) others lines is = (line, refl, is)
+    → one_piece number place o others ≡ Ok lines → (line : Line) × (p : LogPlace)
+    × (rest : List Line) × (o ≡ Some line) × (told place line ≡ Ok p) × (others p ≡ Ok rest)
+    × (line ∷ rest ≡ lines)
+piece_is number place o others lines is = grind arith
 
 -- so it is of what is read of any pieces
 pieces_read : (spell : OneSpelling) (number : ℕ) (place : LogPlace) (pieces : List (List ℕ))
@@ -112,15 +98,12 @@ pieces_read spell number place ([] ∷ []) lines is = end_read number place line
 pieces_read spell number place (piece ∷ next ∷ pieces) lines is =
     let others = λ (p : LogPlace). pieces_log (number + 1) p (next ∷ pieces) in
     let a = piece_is number place (line_of piece) others lines is in
-    let b = told_is number a.0 (told place a.0) others lines a.2 in
-    let c = with_is a.0 (others b.0) lines b.2 in
-    let deep = pieces_read spell (number + 1) b.0 (next ∷ pieces) c.0 c.1 in
-    let t = spell.takes piece a.0 a.1 in
-    rw (← c.2) (record {
-      text = rw (append_assoc (row_text a.0) (10 ∷ []) (lines_text c.0), t.0, deep.text);
+    let deep = pieces_read spell (number + 1) a.1 (next ∷ pieces) a.2 a.5 in
+    let t = spell.takes piece a.0 a.3 in
+    rw (← a.6) (record {
+      text = rw (append_assoc (row_text a.0) (10 ∷ []) (lines_text a.2), t.0, deep.text);
       fits = (t.1, deep.fits);
-      whole = subst (λ (t : Result LogPlace Reason). IsWhole (and_on t (λ p. told_all p c.0)))
-          (sym b.1) deep.whole;
+      whole = rw a.4 deep.whole;
     })
 pieces_read spell number place _ lines is = absurd cc
 

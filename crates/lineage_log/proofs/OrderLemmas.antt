@@ -1,5 +1,5 @@
 -- Nodes in order of their ids: what is found there, whatever order they are kept in.
-use Rattle.std.proofs.Common.{◌≡◌, ◌≢◌, ◌⊎◌, inl, inr, ⊎_elim, ◌∙◌, refl, sym, ap, subst, ℕ, ◌+◌, ◌<◌, ◌≤◌, true, false, cond, List, [], ◌∷◌, length, Option, Some, None, nat_cmp, Ordering, Less, Equal, Greater, arith}
+use Rattle.std.proofs.Common.{◌≡◌, ◌≢◌, ◌⊎◌, inl, inr, ⊎_elim, ◌∙◌, refl, sym, ap, subst, ℕ, ◌+◌, ◌<◌, ◌≤◌, true, false, cond, List, [], ◌∷◌, length, Option, Some, None, nat_cmp, Less, Equal, Greater, arith}
 use Rattle.std.specs.Prelude.{IsSome, nat_eq}
 use Rattle.std.specs.BTreeMap.{insert_entry, is_at}
 use Rattle.std.specs.Cmp.{nat_cmp_is, nat_cmp_total, ranked, unsigned_tied}
@@ -17,12 +17,7 @@ use Rattle.lineage_log.proofs.NodeLemmas.{Rises, by_key, first_node, none_behind
 -- how two ids compare, and what the order answers
 compared : (id other : ℕ) → ((id < other) × (nat_cmp id other ≡ Less))
     ⊎ ((id ≡ other) × (nat_cmp id other ≡ Equal)) ⊎ ((other < id) × (nat_cmp id other ≡ Greater))
-compared id other = by (nat_cmp id other) refl where
-  by : (r : Ordering) → nat_cmp id other ≡ r → ((id < other) × (nat_cmp id other ≡ Less))
-      ⊎ ((id ≡ other) × (nat_cmp id other ≡ Equal)) ⊎ ((other < id) × (nat_cmp id other ≡ Greater))
-  by Less e = inl (ranked id other Less (sym e), e)
-  by Equal e = inr (inl (ranked id other Equal (sym e), e))
-  by Greater e = inr (inr (ranked id other Greater (sym e), e))
+compared id other = grind (arith, ranked id other)
 
 -- all of these ids are above one
 abbrev Above : ℕ → List (ℕ × NodeValue) → Type 0
@@ -38,21 +33,15 @@ rises_cons e es above rising = (above, rising)
 above_lower : (id higher : ℕ) (es : List (ℕ × NodeValue)) → id < higher → Above higher es
     → Above id es
 above_lower id higher [] low above = tt
-above_lower id higher (e ∷ es) low above = (
-  sym (nat_cmp_is id e.0 Less
-      (let far : higher < e.0 = ranked higher e.0 Less (sym above.0) in omega (arith, low, far))),
-  above_lower id higher es low above.1,
-)
+above_lower id higher (e ∷ es) low above =
+    grind (arith, compared id e.0, compared higher e.0, above_lower id higher es low above.1)
 
 -- one id above more
 above_put : (low : ℕ) (es : List (ℕ × NodeValue)) (id : ℕ) (node : NodeValue)
     → nat_cmp low id ≡ Less → Above low es → Above low (insert_entry nat_cmp es id node)
 above_put low [] id node is above = (is, tt)
-above_put low (e ∷ es) id node is above = elim (compared id e.0) [
-  | inl below ↦ rw below.1 (is, above)
-  | inr (inl same) ↦ rw same.1 above
-  | inr (inr over) ↦ rw over.1 (above.0, above_put low es id node is above.1)
-]
+above_put low (e ∷ es) id node is above =
+    grind (arith, compared id e.0, above_put low es id node is above.1)
 
 -- ids still rise where one is put
 rises_put : (es : List (ℕ × NodeValue)) (id : ℕ) (node : NodeValue) → Rises es
@@ -74,10 +63,7 @@ rises_put (e ∷ es) id node rising =
 above_remove : (low id : ℕ) (es : List (ℕ × NodeValue)) → Above low es
     → Above low (remove_entry (is_at (nat_cmp id)) es)
 above_remove low id [] above = tt
-above_remove low id (e ∷ es) above = elim (by_key id e.0) [
-  | inl here ↦ rw here.1 above.1
-  | inr apart ↦ rw apart.1 (above.0, above_remove low id es above.1)
-]
+above_remove low id (e ∷ es) above = grind (arith, by_key id e.0, above_remove low id es above.1)
 
 -- ids still rise where one is removed
 rises_remove : (es : List (ℕ × NodeValue)) (id : ℕ) → Rises es
@@ -105,27 +91,14 @@ other_id id other differs =
 put_here : (es : List (ℕ × NodeValue)) (id : ℕ) (node : NodeValue)
     → node_at (insert_entry nat_cmp es id node) id ≡ Some node
 put_here [] id node = first_node (id, node) [] id (itself id)
-put_here (e ∷ es) id node = elim (compared id e.0) [
-  | inl below ↦ rw below.1 (first_node (id, node) (e ∷ es) id (itself id))
-  | inr (inl same) ↦ rw same.1 (first_node (e.0, node) es id (ap is_eq same.1))
-  | inr (inr above) ↦ rw above.1 (other_node e (insert_entry nat_cmp es id node) id
-      (ap is_eq above.1) ∙ put_here es id node)
-]
+put_here (e ∷ es) id node = grind (arith, compared id e.0, itself id, put_here es id node)
 
 -- what else is there stays
 put_apart : (es : List (ℕ × NodeValue)) (id : ℕ) (node : NodeValue) (other : ℕ) → id ≢ other
     → node_at (insert_entry nat_cmp es id node) other ≡ node_at es other
-put_apart [] id node other differs =
-    other_node (id, node) [] other (other_id other id (λ same. differs (sym same)))
-put_apart (e ∷ es) id node other differs = elim (compared id e.0) [
-  | inl below ↦ rw below.1
-      (other_node (id, node) (e ∷ es) other (other_id other id (λ same. differs (sym same))))
-  | inr (inl same) ↦
-      let out = other_id other e.0 (λ is. differs (same.0 ∙ sym is)) in
-      rw same.1 (other_node (e.0, node) es other out ∙ sym (other_node e es other out))
-  | inr (inr above) ↦ rw above.1
-      (ap (cond (is_at (nat_cmp other) e.0) (Some e.1)) (put_apart es id node other differs))
-]
+put_apart [] id node other differs = grind (arith, by_key other id)
+put_apart (e ∷ es) id node other differs =
+    grind (arith, compared id e.0, by_key other id, put_apart es id node other differs)
 
 -- ---- two lists in order in which all ids have the same nodes are one
 
@@ -173,11 +146,15 @@ order_rises (e ∷ es) = rises_put (id_order es) e.0 e.1 (order_rises es)
 pub order_finds : (nodes : List (ℕ × NodeValue)) (id : ℕ)
     → node_at (id_order nodes) id ≡ lookup (nat_eq id) nodes
 order_finds [] id = refl
-order_finds (e ∷ es) id = elim (by_key id e.0) [
-  | inl here ↦ rw (sym (unsigned_tied id e.0) ∙ here.1, ← here.0) (put_here (id_order es) id e.1)
-  | inr apart ↦ rw (sym (unsigned_tied id e.0) ∙ apart.1)
-      (put_apart (id_order es) e.0 e.1 id (λ same. apart.0 (sym same)) ∙ order_finds es id)
-]
+order_finds (e ∷ es) id =
+    grind (
+      arith,
+      by_key id e.0,
+      unsigned_tied id e.0,
+      put_here (id_order es) id e.1,
+      put_apart (id_order es) e.0 e.1 id,
+      order_finds es id,
+    )
 
 -- what is put anywhere is put in order
 pub order_put : (before after : List (ℕ × NodeValue)) (id : ℕ) (node : NodeValue)
@@ -187,12 +164,16 @@ pub order_put : (before after : List (ℕ × NodeValue)) (id : ℕ) (node : Node
 order_put before after id node at =
     one_order (id_order after) (insert_entry nat_cmp (id_order before) id node)
     (order_rises after) (rises_put (id_order before) id node (order_rises before))
-    (λ other. order_finds after other ∙ at other ∙ elim (by_key id other) [
-      | inl here ↦ rw (sym (unsigned_tied id other) ∙ here.1, ← here.0)
-          (sym (put_here (id_order before) id node))
-      | inr apart ↦ rw (sym (unsigned_tied id other) ∙ apart.1) (sym (order_finds before other)
-          ∙ sym (put_apart (id_order before) id node other apart.0))
-    ])
+    (λ other. grind (
+      arith,
+      order_finds after other,
+      at other,
+      by_key id other,
+      unsigned_tied id other,
+      put_here (id_order before) id node,
+      order_finds before other,
+      put_apart (id_order before) id node other,
+    ))
 
 -- what one look-up says of each id
 pub order_at : (before after : List (ℕ × NodeValue)) (id : ℕ) (what : Option NodeValue)
@@ -224,16 +205,12 @@ pub insert_is_set : (nodes : List (ℕ × NodeValue)) (id : ℕ) (node : NodeVal
     → IsSome (node_at nodes id)
     → insert_entry nat_cmp nodes id node ≡ set_value (is_at (nat_cmp id)) nodes node
 insert_is_set [] id node rising is = absurd cc
-insert_is_set (e ∷ es) id node rising is = elim (compared id e.0) [
-  | inl below ↦ absurd (let none = lookup-none (is_at (nat_cmp id)) (e ∷ es)
-      (none_below_head nat_cmp_total id e es rising below.1) in cc)
-  | inr (inl same) ↦ rw same.1
-  | inr (inr above) ↦ rw (
-    above.1,
-    insert_is_set es id node (sorted_tail nat_cmp e.0 (keys_of es) rising)
-        (subst IsSome (other_node e es id (ap is_eq above.1)) is),
-  )
-]
+insert_is_set (e ∷ es) id node rising is =
+    let none : nat_cmp id e.0 ≡ Less → node_at (e ∷ es) id ≡ None =
+    λ below. lookup-none (is_at (nat_cmp id)) (e ∷ es)
+    (none_below_head nat_cmp_total id e es rising below) in
+    let rest = insert_is_set es id node (sorted_tail nat_cmp e.0 (keys_of es) rising) in
+    grind (arith, compared id e.0, none, rest)
 
 -- what is set anywhere is set in order
 pub order_set : (nodes : List (ℕ × NodeValue)) (id : ℕ) (old new : NodeValue)
@@ -246,30 +223,22 @@ order_set nodes id old new is =
     ∙ insert_is_set (id_order nodes) id new (order_rises nodes)
     (subst IsSome (sym (order_finds nodes id ∙ is)) refl)
 
+-- at most one more
+one_more : (nodes : List (ℕ × NodeValue)) (id : ℕ) (node : NodeValue)
+    → length (insert_entry nat_cmp nodes id node) ≤ length nodes + 1
+one_more [] id node = omega arith
+one_more (d ∷ ds) id node = grind (arith, compared id d.0, one_more ds id node)
+
 -- there are no more nodes in order
 pub order_few : (nodes : List (ℕ × NodeValue)) → length (id_order nodes) ≤ length nodes
 order_few [] = omega arith
-order_few (e ∷ es) = omega (arith, one_more (id_order es) e.0 e.1, order_few es) where
-  -- at most one more
-  one_more : (nodes : List (ℕ × NodeValue)) (id : ℕ) (node : NodeValue)
-      → length (insert_entry nat_cmp nodes id node) ≤ length nodes + 1
-  one_more [] id node = omega arith
-  one_more (d ∷ ds) id node = elim (compared id d.0) [
-    | inl below ↦ rw below.1 (omega arith)
-    | inr (inl same) ↦ rw same.1 (omega arith)
-    | inr (inr above) ↦ rw above.1 (omega (arith, one_more ds id node))
-  ]
+order_few (e ∷ es) = omega (arith, one_more (id_order es) e.0 e.1, order_few es)
 
 -- one more where the id isn't there
 put_length : (nodes : List (ℕ × NodeValue)) (id : ℕ) (node : NodeValue) → node_at nodes id ≡ None
     → length (insert_entry nat_cmp nodes id node) ≡ length nodes + 1
 put_length [] id node none = refl
-put_length (e ∷ es) id node none = elim (compared id e.0) [
-  | inl below ↦ rw below.1 (omega arith)
-  | inr (inl same) ↦ absurd (cc (first_node e es id (ap is_eq same.1)))
-  | inr (inr above) ↦ rw above.1
-      (omega (arith, put_length es id node (sym (other_node e es id (ap is_eq above.1)) ∙ none)))
-]
+put_length (e ∷ es) id node none = grind (arith, compared id e.0, put_length es id node)
 
 -- an id that differs from all is not found
 not_found : (nodes : List (ℕ × NodeValue)) (id : ℕ)

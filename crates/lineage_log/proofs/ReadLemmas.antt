@@ -1,8 +1,6 @@
 -- The loop over the pieces of a log.
-use Rattle.std.proofs.Common.{◌≡◌, ℕ, ◌+◌, List, [], ◌∷◌, ◌++◌, Option, Some, None, Result, Ok, Err, Bor, refl, sym, ap, ◌∙◌, append_assoc, inl, inr}
-use Rattle.std.specs.Prelude.{◌==◌, ◌≢◌, ◌↔◌, option_copied}
-use Rattle.std.specs.List.{onto_first}
-use Rattle.std.proofs.lemmas.Bool.{cases_Bool}
+use Rattle.std.proofs.Common.{◌≡◌, ℕ, ◌+◌, List, [], ◌∷◌, ◌++◌, Option, Some, None, Result, Ok, Err, Bor, refl, sym, ap, ◌∙◌, append_assoc}
+use Rattle.std.specs.Prelude.{◌≢◌, ◌↔◌, option_copied}
 use Rattle.log_lines.specs.Line.{Line}
 use Rattle.log_lines.specs.LineReading.{line_of}
 use Rattle.log_lines.specs.Words.{pieces_of}
@@ -18,7 +16,7 @@ use Rattle.lineage_log.specs.Places.{place_of}
 use Rattle.lineage_log.specs.Readings.{Tells}
 use Rattle.lineage_log.specs.LogGrammar.{stop_at, with_line, one_piece, pieces_log, log_of, lines_text, Reads, IsGoodLog}
 use Rattle.lineage_log.specs.LogValues.{stop_of}
-use Rattle.lineage_log.proofs.LogLaws.{cut}
+use Rattle.lineage_log.proofs.LogLaws.{cut, cut_some}
 
 -- lines before those that are read
 abbrev pub with_front : List Line → Result (List Line) LogStop → Result (List Line) LogStop
@@ -46,22 +44,11 @@ next_piece reader piece others behind split is =
     ap (λ (ps : List (List ℕ)). pieces_log reader.number (place_of reader.place) ps)
     (rw is at split)
 
--- a piece before others, the first of which has a byte put onto it, is read as one line
-more_onto : (number : ℕ) (place : LogPlace) (piece : List ℕ) (b : ℕ) (parts : List (List ℕ))
-    → pieces_log number place (piece ∷ onto_first b parts) ≡ one_piece number place (line_of piece)
-    (λ p. pieces_log (number + 1) p (onto_first b parts))
-more_onto number place piece b [] = refl
-more_onto number place piece b (part ∷ parts) = refl
-
 -- a piece before those of further bytes is read as one line
 more_pieces : (number : ℕ) (place : LogPlace) (piece rest : List ℕ)
     → pieces_log number place (piece ∷ cut rest) ≡ one_piece number place (line_of piece)
     (λ p. pieces_log (number + 1) p (cut rest))
-more_pieces number place piece [] = refl
-more_pieces number place piece (b ∷ bs) = elim (cases_Bool (b == 10)) [
-  | inl is ↦ rw is refl
-  | inr not ↦ rw not (more_onto number place piece b (cut bs))
-]
+more_pieces number place piece rest = rw (cut_some rest).2
 
 module _ (number : ℕ) (place : LogPlace) (piece rest : List ℕ) where
   -- a piece that is no line is the fault

@@ -61,8 +61,7 @@ line_first spell line rest fits =
 -- lines in front, the first by itself
 front_one : (line : Line) (lines : List Line) (r : Result (List Line) LogStop)
     → with_line line (with_front lines r) ≡ with_front (line ∷ lines) r
-front_one line lines (Ok others) = refl
-front_one line lines (Err why) = refl
+front_one line lines r = grind arith
 
 -- good lines with which the bytes begin are read
 front_read : (spell : OneSpelling) (number : ℕ) (place to : LogPlace) (lines : List Line)
@@ -136,12 +135,7 @@ fault_read spell number place left (stop.Unended line) (at, none, not) =
 fault_read spell number place left (stop.BadLine line) (at, some, none) =
     rw at (no_line spell number place left some none)
 fault_read spell number place left stop.Memory faulty = absurd faulty
-fault_read spell number place left (stop.BadOrder line) is =
-    out_of_order spell number place left (stop.BadOrder line) is
-fault_read spell number place left (stop.UnknownParent line) is =
-    out_of_order spell number place left (stop.UnknownParent line) is
-fault_read spell number place left (stop.BadChange line) is =
-    out_of_order spell number place left (stop.BadChange line) is
+fault_read spell number place left why is = out_of_order spell number place left why is
 
 -- what the bytes are read as is what log_of gives
 pub reads_one_log : (spell : OneSpelling) (bytes : List ℕ) (answer : Result (List Line) LogStop)
@@ -283,17 +277,13 @@ module _ (spell : OneSpelling) where
       → cut bytes ≡ pieces → HasAnswer number place bytes
   answered [] number place bytes is =
       let some = cut_some bytes in absurd cc
-  answered (piece ∷ pieces) number place bytes is =
-      by (λ n p rest same. answered pieces n p rest same) (cut_cases bytes)
-    where
-      -- with a newline or without
-      by : ((n : ℕ) (p : LogPlace) (rest : List ℕ) → cut rest ≡ pieces → HasAnswer n p rest)
-          → (cut bytes ≡ bytes ∷ []) ⊎ HasPiece bytes → HasAnswer number place bytes
-      by behind (inl one) = at_no_line number place bytes (one_piece_none bytes one)
-      by behind (inr more) =
-          let rest : cut more.rest ≡ pieces = cc in
-          at_piece number place bytes more (λ next. behind (number + 1) next more.rest rest)
-          (line_of more.piece) refl
+  answered (piece ∷ pieces) number place bytes is = elim (cut_cases bytes) [
+    | inl one ↦ at_no_line number place bytes (one_piece_none bytes one)
+    | inr more ↦
+        let rest : cut more.rest ≡ pieces = cc in
+        at_piece number place bytes more
+        (λ next. answered pieces (number + 1) next more.rest rest) (line_of more.piece) refl
+  ]
 
 -- from the start on, the answer is what the bytes are read as
 from_start : (bytes : List ℕ) (answer : Result (List Line) LogStop)

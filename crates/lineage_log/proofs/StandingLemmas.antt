@@ -14,13 +14,9 @@ pub get_written : {A : Type 0} (xs : List (Option A)) (i j : ℕ) (slot : Option
     → slice_get (slice_set xs i slot) j ≡ Some (Some x) → ((i ≡ j) × (slot ≡ Some x))
     ⊎ ((i ≢ j) × (slice_get xs j ≡ Some (Some x)))
 get_written [] i j slot x is = absurd cc
-get_written (y ∷ ys) zero zero slot x is = inl (refl, cc)
-get_written (y ∷ ys) zero (suc j) slot x is = inr (λ e. absurd (omega arith), is)
-get_written (y ∷ ys) (suc i) zero slot x is = inr (λ e. absurd (omega arith), is)
-get_written (y ∷ ys) (suc i) (suc j) slot x is = elim (get_written ys i j slot x is) [
-  | inl here ↦ inl (ap suc here.0, here.1)
-  | inr there ↦ inr (λ e. there.0 (omega arith), there.1)
-]
+get_written (y ∷ ys) zero j slot x is = grind arith
+get_written (y ∷ ys) (suc i) zero slot x is = grind arith
+get_written (y ∷ ys) (suc i) (suc j) slot x is = grind (arith, get_written ys i j slot x is)
 
 -- a write leaves all other places as they are
 pub get_other : {A : Type 0} (xs : List A) (i j : ℕ) (x : A) → j ≢ i
@@ -32,13 +28,9 @@ get_other _ _ _ x other = refl
 -- a list with one item more has at a place what it had there, or at its end that item
 pub get_pushed : {A : Type 0} (xs : List A) (y z : A) (i : ℕ) → slice_get (xs ++ y ∷ []) i ≡ Some z
     → (slice_get xs i ≡ Some z) ⊎ ((i ≡ length xs) × (y ≡ z))
-get_pushed [] y z zero is = inr (refl, cc)
-get_pushed [] y z (suc i) is = absurd cc
+get_pushed [] y z i is = grind arith
 get_pushed (x ∷ xs) y z zero is = inl is
-get_pushed (x ∷ xs) y z (suc i) is = elim (get_pushed xs y z i is) [
-  | inl old ↦ inl old
-  | inr new ↦ inr (ap suc new.0, new.1)
-]
+get_pushed (x ∷ xs) y z (suc i) is = grind (arith, get_pushed xs y z i is)
 
 -- what a list has at a place it has there still with more behind it
 pub get_before : {A : Type 0} (xs ys : List A) (z : A) (i : ℕ) → slice_get xs i ≡ Some z
@@ -102,11 +94,11 @@ pub kept_before : (ids : List ℕ) (people : People) (id : ℕ) (letters : List 
     → slice_get people id ≡ Some (Some letters)
 kept_before [] people id letters is = is
 kept_before (d ∷ ids) people id letters is =
-    elim (get_written people d id None letters
-    (kept_before ids (slice_set people d None) id letters is)) [
-      | inl here ↦ absurd cc
-      | inr there ↦ there.1
-    ]
+    grind (
+      arith,
+      get_written people d id None letters
+          (kept_before ids (slice_set people d None) id letters is),
+    )
 
 -- leaving out other ids leaves what is kept of this one
 kept_still : (ids : List ℕ) (people : People) (id : ℕ) → AllByRecursion (λ d. d ≢ id) ids
@@ -138,10 +130,7 @@ module _ (standing : List (Option ℕ)) (people : People) (leaving : List ℕ)
   -- who stands once a cell is empty stands in another cell, as before
   left_standing : (cell c i : ℕ) → slice_get (slice_set standing cell None) c ≡ Some (Some i)
       → (cell ≢ c) × (slice_get standing c ≡ Some (Some i))
-  left_standing cell c i is = elim (get_written standing cell c None i is) [
-    | inl here ↦ absurd cc
-    | inr there ↦ there
-  ]
+  left_standing cell c i is = grind (arith, get_written standing cell c None i is)
 
   -- the cells are tidy still once who stands in one of them has died
   pub tidy_death : (cell id : ℕ) → slice_get standing cell ≡ Some (Some id)
@@ -169,10 +158,8 @@ module _ (standing : List (Option ℕ)) (people : People) (leaving : List ℕ)
   -- who stands after somebody came: the newcomer, or one who stood elsewhere
   stands_now : (cell c i : ℕ) → slice_get (new_standing cell) c ≡ Some (Some i)
       → ((cell ≡ c) × (length people ≡ i)) ⊎ ((cell ≢ c) × (slice_get standing c ≡ Some (Some i)))
-  stands_now cell c i is = elim (get_written standing cell c (Some (length people)) i is) [
-    | inl here ↦ inl (here.0, cc)
-    | inr there ↦ inr there
-  ]
+  stands_now cell c i is =
+      grind (arith, get_written standing cell c (Some (length people)) i is)
 
   -- who stands after somebody came is kept
   new_present : (cell : ℕ) (genome : List Letter) (c i : ℕ)
@@ -201,18 +188,18 @@ module _ (standing : List (Option ℕ)) (people : People) (leaving : List ℕ)
   -- who stands after somebody came stands in one cell
   new_once : (cell a b i : ℕ) → slice_get (new_standing cell) a ≡ Some (Some i)
       → slice_get (new_standing cell) b ≡ Some (Some i) → a ≡ b
-  new_once cell a b i at_a at_b = elim (stands_now cell a i at_a) [
-    | inl here ↦ elim (stands_now cell b i at_b) [
-      | inl also ↦ sym here.0 ∙ also.0
-      | inr there ↦ let below =
-          below_next people i (tidy.present b i there.1) in absurd (omega (arith, here.1))
-    ]
-    | inr there ↦ elim (stands_now cell b i at_b) [
-      | inl here ↦ let below =
-          below_next people i (tidy.present a i there.1) in absurd (omega (arith, here.1))
-      | inr also ↦ tidy.once a b i there.1 also.1
-    ]
-  ]
+  new_once cell a b i at_a at_b =
+      let below : (c : ℕ) → slice_get standing c ≡ Some (Some i) → i < length people =
+      λ (c : ℕ) (at : slice_get standing c ≡ Some (Some i)).
+      below_next people i (tidy.present c i at) in
+      grind (
+        arith,
+        stands_now cell a i at_a,
+        stands_now cell b i at_b,
+        below a,
+        below b,
+        tidy.once a b i,
+      )
 
   -- the cells are tidy still once a newcomer stands in one of them
   pub tidy_newcomer : (cell : ℕ) (over : Option ℕ) (genome : List Letter)

@@ -30,19 +30,13 @@ pub found_new : (before after : List (ℕ × NodeValue)) (id : ℕ) (new : NodeV
     → node_at after other ≡ cond (is_at (nat_cmp id) other) (Some new) (node_at before other)
     → node_at after other ≡ Some node
     → ((id ≡ other) × (new ≡ node)) ⊎ ((id ≢ other) × (node_at before other ≡ Some node))
-found_new before after id new other node look is = elim (by_key id other) [
-  | inl here ↦ inl (here.0, one_node (node_at after other) new node (rw here.1 at look) is)
-  | inr apart ↦ inr (apart.0, sym (rw apart.1 at look) ∙ is)
-]
+found_new before after id new other node look is = grind (arith, by_key id other)
 
 -- what was there is there
 pub still_there : (before after : List (ℕ × NodeValue)) (id : ℕ) (new : NodeValue) (other : ℕ)
     → node_at after other ≡ cond (is_at (nat_cmp id) other) (Some new) (node_at before other)
     → IsSome (node_at before other) → IsSome (node_at after other)
-still_there before after id new other look is = elim (by_key id other) [
-  | inl here ↦ is_there (node_at after other) new (rw here.1 at look)
-  | inr apart ↦ subst IsSome (sym (rw apart.1 at look)) is
-]
+still_there before after id new other look is = grind (arith, by_key id other)
 
 -- ---- a node that changes, but not its parent
 
@@ -100,18 +94,14 @@ gone_is before after id old rising rises is e =
 pub gone_from : (before after : List (ℕ × NodeValue)) (id : ℕ) (old : NodeValue) (other : ℕ)
     (node : NodeValue) → IsGone before after id old → node_at after other ≡ Some node
     → (id ≢ other) × (node_at before other ≡ Some node)
-gone_from before after id old other node gone is = elim (by_key id other) [
-  | inl here ↦ absurd (let none = rw here.1 at (gone.at other) in cc)
-  | inr apart ↦ (apart.0, sym (rw apart.1 at (gone.at other)) ∙ is)
-]
+gone_from before after id old other node gone is =
+    grind (arith, by_key id other, gone.at other)
 
 -- what stood there stands there then, but for one
 pub gone_still : (before after : List (ℕ × NodeValue)) (id : ℕ) (old : NodeValue) (other : ℕ)
     → IsGone before after id old → id ≢ other → node_at after other ≡ node_at before other
-gone_still before after id old other gone differs = elim (by_key id other) [
-  | inl here ↦ absurd (differs here.0)
-  | inr apart ↦ rw apart.1 at (gone.at other)
-]
+gone_still before after id old other gone differs =
+    grind (arith, by_key id other, gone.at other)
 
 -- ---- a node that is there in vain goes
 
@@ -171,29 +161,26 @@ module _ (before mid : List (ℕ × NodeValue)) (id : ℕ) (old : NodeValue)
           needed other node was.1 dies (λ same. was.0 cc),
     )
 
-    module _ (after : List (ℕ × NodeValue)) (above : ℕ) (parent new : NodeValue)
+    module _ (after : List (ℕ × NodeValue)) (above : ℕ) (parent : NodeValue)
         (child : old.parent ≡ Some above) (above_is : node_at mid above ≡ Some parent)
-        (fewer : new ≡ record parent { children = parent.children - 1 })
-        (set : IsSet mid after above new) where
+        (set : IsSet mid after above (record parent { children = parent.children - 1 })) where
       -- the parent, with one child fewer, stays as it should be
-      fit_parent : IsInFamily after above new
+      fit_parent : IsInFamily after above (record parent { children = parent.children - 1 })
       fit_parent =
           let was = gone_from before mid id old above parent gone above_is in
           let fit = families.each above parent was.1 in
-          let same : new.parent ≡ parent.parent = ap (λ (n : NodeValue). n.parent) fewer in
           record {
-            older = λ higher h. fit.older higher (sym same ∙ h);
-            there = λ higher h. still_there mid after above new higher (set.at higher)
-                (parent_stays above higher parent was.1 (sym same ∙ h));
-            counted = ap (λ (n : NodeValue). n.children) fewer
-                ∙ omega (
-                  arith,
-                  fit.counted,
-                  set.kids above,
-                  gone.kids above,
-                  child_is above old child,
-                  parent_counts above parent child above_is,
-                );
+            older = fit.older;
+            there = λ higher h. still_there mid after above _ higher (set.at higher)
+                (parent_stays above higher parent was.1 h);
+            counted = omega (
+              arith,
+              fit.counted,
+              set.kids above,
+              gone.kids above,
+              child_is above old child,
+              parent_counts above parent child above_is,
+            );
           }
 
       -- all others stay as they should be
@@ -204,7 +191,7 @@ module _ (before mid : List (ℕ × NodeValue)) (id : ℕ) (old : NodeValue)
           let fit = families.each other node was.1 in
           record {
             older = fit.older;
-            there = λ higher h. still_there mid after above new higher (set.at higher)
+            there = λ higher h. still_there mid after above _ higher (set.at higher)
                 (parent_stays other higher node was.1 h);
             counted = omega (
               arith,
@@ -221,13 +208,13 @@ module _ (before mid : List (ℕ × NodeValue)) (id : ℕ) (old : NodeValue)
         record {
           rising = set.rising;
           each = λ other node has.
-              elim (found_new mid after above new other node (set.at other) has) [
+              elim (found_new mid after above _ other node (set.at other) has) [
                 | inl here ↦ rw (← here.0, ← here.1) fit_parent
                 | inr apart ↦ fit_other other node apart.0 apart.1
               ];
         },
         λ other node has dies hole.
-            elim (found_new mid after above new other node (set.at other) has) [
+            elim (found_new mid after above _ other node (set.at other) has) [
               | inl here ↦ absurd (hole (ap (λ (n : ℕ). Some n) here.0))
               | inr apart ↦
                   let was = gone_from before mid id old other node gone apart.1 in
@@ -310,11 +297,10 @@ lets_go before mid after id above old families needed is dead vain gone removed 
     let stays = parent_stays before mid id old families needed is vain gone id above old is child in
     let parent = (some_of (node_at mid above) stays).0 in
     let above_is = (some_of (node_at mid above) stays).1 in
-    let new : NodeValue = record parent { children = parent.children - 1 } in
     let set =
-    set_is mid after above parent new gone.rising above_is refl (lowered parent above_is) in
-    let both = child_goes before mid id old families needed is vain gone after above parent new
-    child above_is refl set in
+    set_is mid after above parent _ gone.rising above_is refl (lowered parent above_is) in
+    let both = child_goes before mid id old families needed is vain gone after above parent child
+    above_is set in
     record {
       families = both.0;
       needed = both.1;

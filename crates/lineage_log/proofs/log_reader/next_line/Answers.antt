@@ -1,5 +1,5 @@
-use Rattle.std.proofs.Common.{◌≡◌, ◌<◌, ◌∙◌, ℕ, List, Option, Bor, length, Some, Result, sym, ap, subst}
-use Rattle.std.specs.Prelude.{option_map, IfSome}
+use Rattle.std.proofs.Common.{◌≡◌, ◌∙◌, Some, Result, sym, ap, subst}
+use Rattle.std.specs.Prelude.{option_map}
 use Rattle.log_lines.specs.Line.{line_values}
 use Rattle.log_lines.specs.LineReading.{line_of}
 use Rattle.lineage_log.specs.Order.{told}
@@ -44,8 +44,7 @@ returns c =
     let at = place_of c.args.reader.now.place in
     let next = place_of c.tell.new.place in
     let one = line_values c.in-Some-2.line in
-    let good = subst (λ (t : Result (Unit {0}) Refusal). Tells (λ done. next) t (told at one))
-    c.in_default-tell.is c.tell.ensures in
+    let good = rw c.in_default-tell.is at c.tell.ensures in
     record {
       left = next_piece c.args.reader.now _ _ c.in-Some.behind c.split_at.ensures.pieces
           c.in-Some.is
@@ -53,7 +52,5 @@ returns c =
           c.in-Some-checked_add.next (has_line (goal.at.returns c).After-tell) good
           c.in-Some-checked_add.ensures.1;
       told = good;
-      shorter = subst (λ (o : Option (Bor (List ℕ))).
-          IfSome o (λ behind. length behind.now < length c.args.reader.now.rest.now)) c.in-Some.is
-          c.split_at.ensures.shorter;
+      shorter = rw c.in-Some.is at c.split_at.ensures.shorter;
     }

@@ -1,9 +1,5 @@
-use Rattle.std.proofs.Common.{◌<◌, ◌∙◌, ℕ, List, Option, Bor, Bool, length, Result, Ok, subst}
-use Rattle.std.specs.Prelude.{IfSome}
-use Rattle.log_lines.specs.LineReading.{line_of}
-use Rattle.lineage_log.specs.LogReading.{TellsPiece}
+use Rattle.std.proofs.Common.{◌∙◌}
 use Rattle.lineage_log.specs.Places.{place_of}
-use Rattle.lineage_log.specs.declared.refusal.Refusal.{Refusal}
 use Rattle.lineage_log.proofs.ReadLemmas.{next_piece, bad_line, good_line, refused_piece}
 use Rattle.lineage_log.proofs.log_reader.tell_next.Goals as goal
 
@@ -11,10 +7,7 @@ pub returns-in-Ok-false : goal.returns-in-Ok-false
 returns-in-Ok-false c =
     let at = place_of c.args.reader.now.place in
     let next = place_of c.tell_piece.new.place in
-    let gives = subst (λ (t : Result Bool Refusal). TellsPiece t (line_of c.split_at.result.0.now)
-    at next) c.in-Ok-false.is c.tell_piece.ensures in
-    let none = subst (λ (b : Bool). TellsPiece (Ok b) (line_of c.split_at.result.0.now) at next)
-    c.in-Ok-false.field-0-test gives in
+    let none = rw (c.in-Ok-false.is, c.in-Ok-false.field-0-test) at c.tell_piece.ensures in
     λ other. next_piece c.args.reader.now _ _ c.in-Some.behind c.split_at.ensures.pieces
     c.in-Some.is
     ∙ bad_line c.args.reader.now.number at c.split_at.result.0.now c.in-Some.behind.now none
@@ -24,8 +17,7 @@ returns-in-Err c =
     let n = c.args.reader.now.number in
     let at = place_of c.args.reader.now.place in
     let next = place_of c.tell_piece.new.place in
-    let bad = subst (λ (t : Result Bool Refusal). TellsPiece t (line_of c.split_at.result.0.now)
-    at next) c.in-Err.is c.tell_piece.ensures in
+    let bad = rw c.in-Err.is at c.tell_piece.ensures in
     λ other. next_piece c.args.reader.now _ _ c.in-Some.behind c.split_at.ensures.pieces
     c.in-Some.is
     ∙ refused_piece n at c.split_at.result.0.now c.in-Some.behind.now c.in-Err.refusal
@@ -36,10 +28,7 @@ returns c =
     let n = c.args.reader.now.number in
     let at = place_of c.args.reader.now.place in
     let next = place_of c.tell_piece.new.place in
-    let gives = subst (λ (t : Result Bool Refusal). TellsPiece t (line_of c.split_at.result.0.now)
-    at next) c.in-Ok-true.is c.tell_piece.ensures in
-    let tells = subst (λ (b : Bool). TellsPiece (Ok b) (line_of c.split_at.result.0.now) at next)
-    c.in-Ok-true.field-0-test gives in (
+    let tells = rw (c.in-Ok-true.is, c.in-Ok-true.field-0-test) at c.tell_piece.ensures in (
       tells.0,
       record {
         left = next_piece c.args.reader.now _ _ c.in-Some.behind c.split_at.ensures.pieces
@@ -47,8 +36,6 @@ returns c =
             ∙ good_line n at c.split_at.result.0.now c.in-Some.behind.now tells.0 next
             c.in-Some-checked_add.next tells.1 tells.2 c.in-Some-checked_add.ensures.1;
         told = tells.2;
-        shorter = subst (λ (o : Option (Bor (List ℕ))).
-            IfSome o (λ behind. length behind.now < length c.args.reader.now.rest.now))
-            c.in-Some.is c.split_at.ensures.shorter;
+        shorter = rw c.in-Some.is at c.split_at.ensures.shorter;
       },
     )
