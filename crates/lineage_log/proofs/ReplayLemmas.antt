@@ -97,7 +97,7 @@ newcomer_agrees r s stage id cell over genome births agrees next stood = record 
 -- ---- a birth
 
 -- what a birth tells: its parent is kept, and its child has the next id in its cell
-birth_told : (r : Reader) (id parent update cell : ℕ) (over : Option ℕ) (birth : BirthRecord)
+pub birth_told : (r : Reader) (id parent update cell : ℕ) (over : Option ℕ) (birth : BirthRecord)
     (p : LogPlace) → told_birth r id parent update cell over birth ≡ Ok p
     → (letters child : List Letter) × (slice_get r.people parent ≡ Some (Some letters))
     × (child_of letters birth ≡ Ok child) × ((id == length r.people) ≡ true)

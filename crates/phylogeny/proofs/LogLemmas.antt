@@ -1,25 +1,28 @@
 -- The lines of a good log tell a pedigree: ids are counted, and parents came before.
-use Rattle.std.proofs.Common.{◌≡◌, ◌≢◌, ℕ, zero, suc, ◌+◌, ◌*◌, ◌<◌, ◌≤◌, Bool, true, false, cond, eqb, List, [], ◌∷◌, ◌++◌, Option, Some, None, Ok, length, map, get_or, set, mul-le-mul, refl, sym, ap, subst, ◌∙◌, arith}
-use Rattle.std.specs.Prelude.{◌==◌, ◌&&◌, flat_map, nat_lt, slice_get}
+use Rattle.std.proofs.Common.{◌≡◌, ◌≢◌, ℕ, zero, suc, ◌+◌, ◌*◌, ◌<◌, ◌≤◌, Bool, true, false, cond, eqb, List, [], ◌∷◌, Option, Some, None, Ok, length, map, get_or, set, mul-le-mul, refl, sym, ap, ◌∙◌, arith}
+use Rattle.std.specs.Prelude.{◌==◌, flat_map, slice_get}
 use Rattle.std.specs.List.{range_with_len}
 use Rattle.std.specs.Option.{option_or}
 use Rattle.std.proofs.Math.ListN.{length-replicate, length-set}
+use Rattle.std.proofs.lemmas.Bool.{eqb-true}
 use Rattle.std.proofs.lemmas.Bool.Decides.{nat_tests}
+use Rattle.std.proofs.lemmas.Option.{slice_get_within}
 use Rattle.instruction_set.specs.declared.letter.Letter.{Letter}
 use Rattle.log_lines.specs.Line.{Line, Start, Death, Birth, Injected, Cleared, Rate, Count, End}
-use Rattle.lineage_log.specs.declared.stage.Stage.TheVariants.{Dying, Happening}
+use Rattle.lineage_log.specs.declared.stage.Stage.TheVariants.{Dying, Placing, Happening}
 use Rattle.lineage_log.specs.LogGrammar.{IsGoodLog}
-use Rattle.lineage_log.specs.Order.{LogPlace, Before, Within, After, may_happen, opened, at_next_update, told_all, told_birth, told_cleared, told_count, told_death, told_end, told_injected, told_rate, told_start, told}
-use Rattle.lineage_log.specs.Reader.{Reader, is_quiet, may_be_born, may_die, reader_with_death, reader_with_newcomer}
+use Rattle.lineage_log.specs.Order.{LogPlace, Before, Within, After, opened, at_next_update, told_all, told_birth, told_cleared, told_count, told_death, told_end, told_injected, told_rate, told_start, told}
+use Rattle.lineage_log.specs.Reader.{Reader}
 use Rattle.lineage_log.specs.Replay.{Seen, replay_of, residents_from, seen_all, seen_on}
-use Rattle.lineage_log.specs.Slots.{holds, taken}
+use Rattle.lineage_log.specs.Slots.{holds}
 use Rattle.lineage_log.proofs.LogLaws.{went_on, whole_is}
+use Rattle.lineage_log.proofs.ReplayLemmas.{birth_told}
 use Rattle.lineage_log.proofs.StandingLemmas.{length_without}
 use Rattle.phylogeny.specs.LogPedigree.{dweller, newcomer, parent_by_lines, parent_told, pedigree_of}
 use Rattle.phylogeny.specs.Pedigree.{Dweller}
 use Rattle.phylogeny.specs.Slots.{AreBelow, HaveLowerIds, IsPedigree, living_from, newcomer_parent, parent_at, parents_in, pedigree_with, standing_after, standing_on}
 use Rattle.phylogeny.proofs.ListLemmas.{get_replicated}
-use Rattle.phylogeny.proofs.ReaderLemmas.{below_with, nobody, IsAt, IsPlaceAt, within_gives, tested, death_at, newcomer_at, next_id, birth_at, end_at}
+use Rattle.phylogeny.proofs.ReaderLemmas.{below_with, nobody, IsAt, IsPlaceAt, within_gives, tested, death_at, newcomer_at, next_id}
 
 -- ---- what the lines that are left tell
 
@@ -54,44 +57,30 @@ eqb_itself a = grind (arith, nat_tests)
 
 -- an option, or else none, is that option
 or_none : (o : Option ℕ) → option_or o None ≡ o
-or_none None = refl
-or_none (Some x) = refl
+or_none o = grind arith
 
 -- the next id with an older parent before ids with older parents: all parents are older
-older_still : (count : ℕ) (parent : Option ℕ) (parents others : List (Option ℕ))
-    → ((i : ℕ) → parent_at parents i ≡ parent_at (parent ∷ others) i)
+older_still : (count : ℕ) (parent : Option ℕ) (others : List (Option ℕ))
     → ((above : ℕ) → parent ≡ Some above → above < count)
     → ((i above : ℕ) → parent_at others i ≡ Some above → above < count + 1 + i) → (i above : ℕ)
-    → parent_at parents i ≡ Some above → above < count + i
-older_still count parent parents others at older later zero above is =
-    let b = older above (sym (at 0) ∙ is) in omega arith
-older_still count parent parents others at older later (suc i) above is =
-    let b = later i above (sym (at (suc i)) ∙ is) in omega arith
+    → parent_at (parent ∷ others) i ≡ Some above → above < count + i
+older_still count parent others older later zero above is = omega (arith, older above is)
+older_still count parent others older later (suc i) above is = omega (arith, later i above is)
 
 -- a line that tells only the parent of the next id: all parents are told as they are listed
-looked_still : (count : ℕ) (parent : Option ℕ) (parents others : List (Option ℕ))
-    (now later : ℕ → Option ℕ) → ((i : ℕ) → parent_at parents i ≡ parent_at (parent ∷ others) i)
-    → ((id : ℕ) → count ≢ id → now id ≡ later id) → now count ≡ parent
+looked_still : (count : ℕ) (parent : Option ℕ) (others : List (Option ℕ))
+    (now later : ℕ → Option ℕ) → ((id : ℕ) → count ≢ id → now id ≡ later id) → now count ≡ parent
     → ((i : ℕ) → later (count + 1 + i) ≡ parent_at others i) → (i : ℕ)
-    → now (count + i) ≡ parent_at parents i
-looked_still count parent parents others now later at other here looked zero =
-    let e : count + 0 ≡ count = omega arith in
-    ap now e ∙ here ∙ sym (at 0)
-looked_still count parent parents others now later at other here looked (suc i) =
+    → now (count + i) ≡ parent_at (parent ∷ others) i
+looked_still count parent others now later other here looked zero =
+    let e : count + 0 ≡ count = omega arith in ap now e ∙ here
+looked_still count parent others now later other here looked (suc i) =
     let e : count + suc i ≡ count + 1 + i = omega arith in
-    other (count + suc i) (λ same. absurd (omega arith)) ∙ ap later e ∙ looked i ∙ sym (at (suc i))
-
--- equal slots have ids below an equal number
-below_still : (count : ℕ) (slots : List (Option ℕ)) (now : ℕ) (others : List (Option ℕ))
-    → now ≡ count → others ≡ slots → AreBelow count slots → AreBelow now others
-below_still count slots now others same is below cell id at =
-    let b = below cell id (sym (ap (λ (l : List (Option ℕ)). get_or l cell None) is) ∙ at) in
-    omega (arith, b, same)
+    other (count + suc i) (λ same. absurd (omega arith)) ∙ ap later e ∙ looked i
 
 -- whatever a test says, a choice between an option and itself is that option
 either_way : (o : Option ℕ) (b : Bool) → o ≡ cond b o o
-either_way o true = refl
-either_way o false = refl
+either_way o b = grind arith
 
 -- a founder before ids whose parents are told as they are listed: all are told so
 founder_looked : (now : ℕ → Option ℕ) (parents : List (Option ℕ)) → now 0 ≡ None
@@ -113,26 +102,14 @@ stays : (count : ℕ) (standing next : List (Option ℕ)) (line : Line) (lines :
     → newcomer line ≡ [] → newcomer_parent line ≡ [] → ((id : ℕ) → parent_told id line ≡ None)
     → standing_on standing line ≡ next → length next ≡ length standing
     → Follows count next lines → Follows count standing (line ∷ lines)
-stays count standing next line lines nobody no_parent untold stands cells follows =
-    let parents : parents_in (line ∷ lines) ≡ parents_in lines =
-    ap (λ (ps : List (Option ℕ)). ps ++ parents_in lines) no_parent in
-    let after : standing_after standing (line ∷ lines) ≡ standing_after next lines =
-    ap (λ (slots : List (Option ℕ)). standing_after slots lines) stands in
-    let told : (id : ℕ) → parent_by_lines (line ∷ lines) id ≡ parent_by_lines lines id =
-    λ id. ap (λ (o : Option ℕ). option_or o (parent_by_lines lines id)) (untold id) in
-    record {
-      older = λ i above is. follows.older i above
-          (sym (ap (λ (ps : List (Option ℕ)). parent_at ps i) parents) ∙ is);
-      early = λ id few. told id ∙ follows.early id few;
-      looked = λ i. told (count + i) ∙ follows.looked i
-          ∙ sym (ap (λ (ps : List (Option ℕ)). parent_at ps i) parents);
-      ids = ap (λ (ids : List ℕ). ids ++ flat_map newcomer lines) nobody ∙ follows.ids
-          ∙ sym (ap (λ (ps : List (Option ℕ)). range_with_len count (length ps)) parents);
-      below = below_still (count + length (parents_in lines)) (standing_after next lines)
-          (count + length (parents_in (line ∷ lines))) (standing_after standing (line ∷ lines))
-          (omega (arith, ap length parents)) after follows.below;
-      cells = ap length after ∙ follows.cells ∙ cells;
-    }
+stays count standing next line lines nobody no_parent untold stands cells follows = record {
+  older = rw no_parent follows.older;
+  early = λ id few. rw (untold id) (follows.early id few);
+  looked = λ i. rw (untold (count + i), no_parent) (follows.looked i);
+  ids = rw (nobody, no_parent) follows.ids;
+  below = rw (no_parent, stands) follows.below;
+  cells = rw stands (follows.cells ∙ cells);
+}
 
 -- a line by which somebody comes, with the next id, of an older parent if of any
 comes : (count : ℕ) (standing next : List (Option ℕ)) (line : Line) (parent : Option ℕ)
@@ -143,119 +120,77 @@ comes : (count : ℕ) (standing next : List (Option ℕ)) (line : Line) (parent 
     → length next ≡ length standing
     → Follows (count + 1) next lines → Follows count standing (line ∷ lines)
 comes count standing next line parent lines somebody its_parent told older stands cells follows =
-    let parents : parents_in (line ∷ lines) ≡ parent ∷ parents_in lines =
-    ap (λ (ps : List (Option ℕ)). ps ++ parents_in lines) its_parent in
-    let after : standing_after standing (line ∷ lines) ≡ standing_after next lines =
-    ap (λ (slots : List (Option ℕ)). standing_after slots lines) stands in
-    let at : (i : ℕ) → parent_at (parents_in (line ∷ lines)) i
-    ≡ parent_at (parent ∷ parents_in lines) i =
-    λ i. ap (λ (ps : List (Option ℕ)). parent_at ps i) parents in
     let other : (id : ℕ) → count ≢ id
     → parent_by_lines (line ∷ lines) id ≡ parent_by_lines lines id =
-    λ id apart.
-    ap (λ (o : Option ℕ). option_or o (parent_by_lines lines id))
-    (told id ∙ ap (λ (b : Bool). cond b parent None) (eqb_apart count id apart)) in
+    λ id apart. rw (told id, eqb_apart count id apart) refl in
     record {
-      older = older_still count parent (parents_in (line ∷ lines)) (parents_in lines) at older
-          follows.older;
+      older = rw its_parent (older_still count parent (parents_in lines) older follows.older);
       early = λ id few. other id (λ e. absurd (omega arith)) ∙ follows.early id (omega arith);
-      looked = looked_still count parent (parents_in (line ∷ lines)) (parents_in lines)
-          (parent_by_lines (line ∷ lines)) (parent_by_lines lines) at other
-          (ap (λ (o : Option ℕ). option_or o (parent_by_lines lines count))
-          (told count ∙ ap (λ (b : Bool). cond b parent None) (eqb_itself count))
-          ∙ ap (option_or parent) (follows.early count (omega arith)) ∙ or_none parent)
-          follows.looked;
-      ids = ap (λ (ids : List ℕ). ids ++ flat_map newcomer lines) somebody
-          ∙ ap (λ (ids : List ℕ). count ∷ ids) follows.ids
-          ∙ sym (ap (λ (ps : List (Option ℕ)). range_with_len count (length ps)) parents);
-      below = below_still (count + 1 + length (parents_in lines)) (standing_after next lines)
-          (count + length (parents_in (line ∷ lines))) (standing_after standing (line ∷ lines))
-          (omega (arith, ap length parents)) after follows.below;
-      cells = ap length after ∙ follows.cells ∙ cells;
+      looked = rw its_parent (looked_still count parent (parents_in lines)
+          (parent_by_lines (line ∷ lines)) (parent_by_lines lines) other
+          (rw (told count, eqb_itself count, follows.early count (omega arith)) (or_none parent))
+          follows.looked);
+      ids = rw (somebody, its_parent) (ap (λ (ids : List ℕ). count ∷ ids) follows.ids);
+      below = rw (its_parent, stands)
+          (λ cell id at. omega (arith, follows.below cell id at));
+      cells = rw stands (follows.cells ∙ cells);
     }
-
--- there are as many cells once one of them is set
-set_cells : (slots : List (Option ℕ)) (cell : ℕ) (slot : Option ℕ)
-    → length (set slots cell slot) ≡ length slots
-set_cells slots cell slot = length-set slots cell slot
 
 -- the lines from a place on, up to the end of the log
 follow : (p : LogPlace) (lines : List Line) (q : Reader) (count : ℕ) (standing : List (Option ℕ))
     → told_all p lines ≡ Ok (After q) → IsPlaceAt p count standing → Follows count standing lines
 unfolding told_death told_birth told_injected told_cleared told_rate told_count told_end
-follow Before [] q count standing is now = absurd now
+follow Before lines q count standing is now = absurd now
 follow (Within r) [] q count standing is now = nothing_follows count standing now.below
 follow (After r) [] q count standing is now = nothing_follows count standing now.below
-follow Before (line ∷ lines) q count standing is now = absurd now
-follow (After r) (line ∷ lines) q count standing is now = absurd cc
-follow (Within r) (Start version width height cell genome ∷ lines) q count standing is now =
-    absurd cc
 follow (Within r) (Death id update cell ∷ lines) q count standing is now =
     let step =
     went_on (told (Within r) (Death id update cell)) (λ p. told_all p lines) (After q) is in
-    let test =
-    (update == r.due) && may_die r.stage cell && holds (slice_get r.standing cell) (Some id) in
-    let after = within_gives test (reader_with_death r (Dying cell) cell id) step.0 count
-    (set standing cell None) step.1 (λ _. death_at r (Dying cell) cell id count standing now) in
-    stays count standing (set standing cell None) (Death id update cell) lines refl refl
-    (λ _. refl) refl (set_cells standing cell None)
-    (follow step.0 lines q count (set standing cell None) step.2 after)
+    let after = within_gives _ _ step.0 count (set standing cell None) step.1
+    (λ _. death_at r (Dying cell) cell id count standing now) in
+    stays count standing _ (Death id update cell) lines refl refl (λ _. refl) refl
+    (length-set standing cell None) (follow step.0 lines q count _ step.2 after)
 follow (Within r) (Birth id parent update cell over birth ∷ lines) q count standing is now =
     let step = went_on (told (Within r) (Birth id parent update cell over birth))
     (λ p. told_all p lines) (After q) is in
-    let a = update == r.due in
-    let b = may_be_born r.stage in
-    let d = holds (slice_get r.standing cell) over in
-    let born = birth_at (a && b && (id == length r.people) && d) r cell id parent over birth step.0
-    count standing (next_id a b d id count r.people now.as_many) step.1 now in
-    comes count standing (set standing cell (Some id)) (Birth id parent update cell over birth)
-    (Some parent) lines
-    (ap (λ (n : ℕ). n ∷ []) born.0) refl
-    (λ x. ap (λ (n : ℕ). cond (eqb n x) (Some parent) None) born.0)
-    (λ above same. let e : parent ≡ above = cc in subst (λ (n : ℕ). n < count) e born.1)
-    refl (set_cells standing cell (Some id))
-    (follow step.0 lines q (count + 1) (set standing cell (Some id)) step.2 born.2)
+    let born = birth_told r id parent update cell over birth step.0 step.1 in
+    let next = eqb-true id (length r.people) born.4 ∙ now.as_many in
+    let within = slice_get_within r.people parent (Some born.0) born.2 in
+    let after : IsPlaceAt step.0 (count + 1) (set standing cell (Some id)) = rw born.6
+    (newcomer_at r Placing cell id over born.1 (r.births + 1) count standing next now) in
+    comes count standing _ (Birth id parent update cell over birth) (Some parent) lines
+    (ap (λ (n : ℕ). n ∷ []) next) refl
+    (λ x. ap (λ (n : ℕ). cond (eqb n x) (Some parent) None) next)
+    (λ above same. let e : parent ≡ above = cc in omega (arith, within, now.as_many)) refl
+    (length-set standing cell (Some id)) (follow step.0 lines q (count + 1) _ step.2 after)
 follow (Within r) (Injected id update cell over genome ∷ lines) q count standing is now =
     let step = went_on (told (Within r) (Injected id update cell over genome))
     (λ p. told_all p lines) (After q) is in
-    let a = r.version == 2 in
-    let b = update == r.due in
-    let d = holds (slice_get r.standing cell) over in
-    let test = (a && b) && (id == length r.people) && d in
-    let next = next_id a b d id count r.people now.as_many
-    (tested test (reader_with_newcomer r Happening cell over genome r.births) step.0 step.1) in
-    let after = within_gives test
-    (reader_with_newcomer r Happening cell over genome r.births) step.0
-    (count + 1) (set standing cell (Some id)) step.1
+    let next = next_id (r.version == 2) (update == r.due) (holds (slice_get r.standing cell) over)
+    id count r.people now.as_many (tested _ _ step.0 step.1) in
+    let after = within_gives _ _ step.0 (count + 1) (set standing cell (Some id)) step.1
     (λ _. newcomer_at r Happening cell id over genome r.births count standing next now) in
-    comes count standing (set standing cell (Some id)) (Injected id update cell over genome) None
-    lines
+    comes count standing _ (Injected id update cell over genome) None lines
     (ap (λ (n : ℕ). n ∷ []) next) refl (λ x. either_way None (eqb count x))
-    (λ above same. absurd cc)
-    refl (set_cells standing cell (Some id))
-    (follow step.0 lines q (count + 1) (set standing cell (Some id)) step.2 after)
+    (λ above same. absurd cc) refl (length-set standing cell (Some id))
+    (follow step.0 lines q (count + 1) _ step.2 after)
 follow (Within r) (Cleared id update cell ∷ lines) q count standing is now =
     let step =
     went_on (told (Within r) (Cleared id update cell)) (λ p. told_all p lines) (After q) is in
-    let test = may_happen r update && holds (slice_get r.standing cell) (Some id) in
-    let after = within_gives test (reader_with_death r Happening cell id) step.0 count
-    (set standing cell None) step.1 (λ _. death_at r Happening cell id count standing now) in
-    stays count standing (set standing cell None) (Cleared id update cell) lines refl refl
-    (λ _. refl) refl (set_cells standing cell None)
-    (follow step.0 lines q count (set standing cell None) step.2 after)
+    let after = within_gives _ _ step.0 count (set standing cell None) step.1
+    (λ _. death_at r Happening cell id count standing now) in
+    stays count standing _ (Cleared id update cell) lines refl refl (λ _. refl) refl
+    (length-set standing cell None) (follow step.0 lines q count _ step.2 after)
 follow (Within r) (Rate update name ppm ∷ lines) q count standing is now =
     let step =
     went_on (told (Within r) (Rate update name ppm)) (λ p. told_all p lines) (After q) is in
-    let after = within_gives (may_happen r update) (record r { stage = Happening }) step.0 count
-    standing step.1 (λ _. record { as_many = now.as_many; same = now.same; below = now.below })
-    in
+    let after = within_gives _ (record r { stage = Happening }) step.0 count standing step.1
+    (λ _. record { as_many = now.as_many; same = now.same; below = now.below }) in
     stays count standing standing (Rate update name ppm) lines refl refl (λ _. refl) refl refl
     (follow step.0 lines q count standing step.2 after)
 follow (Within r) (Count s ∷ lines) q count standing is now =
     let step = went_on (told (Within r) (Count s)) (λ p. told_all p lines) (After q) is in
-    let test = (s.update == r.due) && (s.living == taken r.standing) && (s.births == r.births)
-    && (s.deaths == length r.leaving) in
-    let after = within_gives test (at_next_update r) step.0 count standing step.1
+    let after = within_gives _ (at_next_update r) step.0 count standing step.1
     (λ _. record {
       as_many = length_without r.leaving r.people ∙ now.as_many;
       same = now.same;
@@ -265,10 +200,11 @@ follow (Within r) (Count s ∷ lines) q count standing is now =
     (follow step.0 lines q count standing step.2 after)
 follow (Within r) (End updates ∷ lines) q count standing is now =
     let step = went_on (told (Within r) (End updates)) (λ p. told_all p lines) (After q) is in
-    let after =
-    end_at (is_quiet r.stage && (updates + 1 == r.due)) r step.0 count standing step.1 now in
+    let same : step.0 ≡ After r = let e = step.1 in grind arith in
+    let after : IsPlaceAt step.0 count standing = rw same now in
     stays count standing standing (End updates) lines refl refl (λ _. refl) refl refl
     (follow step.0 lines q count standing step.2 after)
+follow _ _ q count standing is now = absurd cc
 
 -- ---- a whole log
 
@@ -291,20 +227,18 @@ founded version width height cell genome = record {
       get_replicated (width * height) c None in absurd cc);
 }
 
--- a whole log that begins with a world of at most 256 by 256 cells tells a pedigree
-start_told : (version width height cell : ℕ) (genome : List Letter) (lines : List Line) (q : Reader)
-    → width ≤ 256 → height ≤ 256 → told_all Before (Start version width height cell genome ∷ lines)
-    ≡ Ok (After q) → IsToldBy (Start version width height cell genome ∷ lines)
+-- a good log that leads to a reader after its last line tells a pedigree
+told_by : (lines : List Line) (q : Reader) → IsGoodLog lines → told_all Before lines ≡ Ok (After q)
+    → IsToldBy lines
 unfolding told_start
-start_told version width height cell genome lines q w h is =
+told_by (Start version width height cell genome ∷ lines) q good is =
     let step = went_on (told_start version width height cell genome) (λ p. told_all p lines)
     (After q) is in
     let slots = standing_on [] (Start version width height cell genome) in
-    let first = within_gives (nat_lt cell (width * height))
-    (opened version (width * height) cell genome) step.0 1 slots step.1
+    let first = within_gives _ _ step.0 1 slots step.1
     (λ _. founded version width height cell genome) in
     let rest = follow step.0 lines q 1 slots step.2 first in
-    let few : width * height ≤ 65536 = mul-le-mul w h in
+    let few : width * height ≤ 65536 = mul-le-mul good.forms.0.1.1 good.forms.0.2.1 in
     record {
       looked = founder_looked (parent_by_lines lines) (parents_in lines)
           (rest.early 0 (omega arith))
@@ -316,26 +250,13 @@ start_told version width height cell genome lines q w h is =
         few = omega (
           arith,
           rest.cells,
-          set_cells (nobody (width * height)) cell (Some 0),
+          length-set (nobody (width * height)) cell (Some 0),
           length-replicate {A = Option ℕ} (width * height) None,
           few,
         );
       };
     }
-
--- a good log that leads to a reader after its last line tells a pedigree
-told_by : (lines : List Line) (q : Reader) → IsGoodLog lines → told_all Before lines ≡ Ok (After q)
-    → IsToldBy lines
-told_by [] q good is = absurd cc
-told_by (Start version width height cell genome ∷ lines) q good is =
-    start_told version width height cell genome lines q good.forms.0.1.1 good.forms.0.2.1 is
-told_by (Death id update cell ∷ lines) q good is = absurd cc
-told_by (Birth id parent update cell over birth ∷ lines) q good is = absurd cc
-told_by (Injected id update cell over genome ∷ lines) q good is = absurd cc
-told_by (Cleared id update cell ∷ lines) q good is = absurd cc
-told_by (Rate update name ppm ∷ lines) q good is = absurd cc
-told_by (Count stats ∷ lines) q good is = absurd cc
-told_by (End updates ∷ lines) q good is = absurd cc
+told_by _ q good is = absurd cc
 
 -- a good log tells a pedigree
 pub good_tells : (lines : List Line) → IsGoodLog lines → IsToldBy lines
@@ -347,13 +268,7 @@ good_tells lines good =
 -- after a line the replay sees the same in the cells as the pedigree
 seen_standing : (s : Seen) (line : Line) → (seen_on s line).standing ≡ standing_on s.standing line
 seen_standing s (Start version width height cell genome) = refl
-seen_standing s (Death id update cell) = refl
-seen_standing s (Birth id parent update cell over birth) = refl
-seen_standing s (Injected id update cell over genome) = refl
-seen_standing s (Cleared id update cell) = refl
-seen_standing s (Rate update name ppm) = refl
-seen_standing s (Count stats) = refl
-seen_standing s (End updates) = refl
+seen_standing s _ = refl
 
 -- so it does after all lines
 seen_after : (s : Seen) (lines : List Line)

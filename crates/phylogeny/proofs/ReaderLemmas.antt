@@ -1,20 +1,12 @@
 -- What a reader of a log knows of its organisms, beside the pedigree so far.
-use Rattle.std.proofs.Common.{◌≡◌, ℕ, zero, suc, ◌+◌, ◌<◌, ◌≤◌, Bool, true, false, List, [], ◌∷◌, Option, Some, None, Result, Ok, Err, length, set, refl, sym, ap, subst, ◌∙◌, arith}
-use Rattle.std.specs.Prelude.{◌==◌, ◌&&◌, if◌then◌else◌, nat_lt, replicate, slice_get, option_and_then}
+use Rattle.std.proofs.Common.{◌≡◌, ℕ, zero, suc, ◌+◌, ◌<◌, ◌≤◌, Bool, true, List, [], ◌∷◌, Option, Some, None, Ok, length, set, sym, ap, ◌∙◌, arith}
+use Rattle.std.specs.Prelude.{◌==◌, ◌&&◌, replicate}
 use Rattle.std.proofs.Math.ListN.{length-append}
 use Rattle.std.proofs.lemmas.Bool.{and_parts, eqb-true}
-use Rattle.std.proofs.lemmas.Option.{slice_get_within}
 use Rattle.instruction_set.specs.declared.letter.Letter.{Letter}
-use Rattle.mutations.specs.BirthRecord.{BirthRecord, child_of}
-use Rattle.mutations.specs.declared.stop.ApplyStop.{ApplyStop}
-use Rattle.lineage_log.specs.declared.reason.Reason.{Reason}
-use Rattle.lineage_log.specs.declared.reason.Reason.TheVariants.{BadOrder}
 use Rattle.lineage_log.specs.declared.stage.Stage.{Stage}
-use Rattle.lineage_log.specs.declared.stage.Stage.TheVariants.{Placing}
-use Rattle.lineage_log.specs.Order.{LogPlace, Before, Within, After, with_child, with_parent, within_if}
+use Rattle.lineage_log.specs.Order.{LogPlace, Before, Within, After, within_if}
 use Rattle.lineage_log.specs.Reader.{Reader, reader_with_death, reader_with_newcomer}
-use Rattle.lineage_log.specs.Reader.{parent_in as kept_parent}
-use Rattle.lineage_log.proofs.LogLaws.{place_is}
 use Rattle.phylogeny.specs.Slots.{AreBelow}
 
 -- ---- who stands in the cells
@@ -66,14 +58,11 @@ IsPlaceAt (After r) count standing = IsAt r count standing
 pub within_gives : (test : Bool) (r : Reader) (p : LogPlace) (count : ℕ)
     (standing : List (Option ℕ))
     → within_if test r ≡ Ok p → (test ≡ true → IsAt r count standing) → IsPlaceAt p count standing
-within_gives true r p count standing is gives =
-    subst (λ (q : LogPlace). IsPlaceAt q count standing) (place_is (Within r) p is) (gives refl)
-within_gives false r p count standing is gives = absurd cc
+within_gives test r p count standing is gives = grind arith
 
 -- the test of a line that tells a newcomer
 pub tested : (test : Bool) (r : Reader) (p : LogPlace) → within_if test r ≡ Ok p → test ≡ true
-tested true r p is = refl
-tested false r p is = absurd cc
+tested test r p is = grind arith
 
 -- after a death there are as many ids, and the cell is empty
 pub death_at : (r : Reader) (stage : Stage) (cell id count : ℕ) (standing : List (Option ℕ))
@@ -104,67 +93,3 @@ next_id a b c id count people as_many test =
     eqb-true id (length people)
     (and_parts (a && b) (id == length people)
     (and_parts ((a && b) && (id == length people)) c test).0).1 ∙ as_many
-
--- ---- the parent of a birth
-
--- an id whose genome is found among the people is below their number
-found_within : (people : List (Option (List Letter))) (parent : ℕ) (letters : List Letter)
-    (found : Option (Option (List Letter))) → slice_get people parent ≡ found
-    → option_and_then (λ f. f) found ≡ Some letters → parent < length people
-found_within people parent letters None there is = absurd cc
-found_within people parent letters (Some found) there is =
-    slice_get_within people parent found there
-
--- so is the id of a parent whose genome is found only where the parent is old enough
-parent_within : (r : Reader) (parent : ℕ) (letters : List Letter) (old : Bool)
-    → (if old then option_and_then (λ f. f) (slice_get r.people parent) else None) ≡ Some letters
-    → parent < length r.people
-parent_within r parent letters true is =
-    found_within r.people parent letters (slice_get r.people parent) refl is
-parent_within r parent letters false is = absurd cc
-
--- where the child of a birth is made, there is one id more, and it stands in the cell
-child_at : (r : Reader) (cell id : ℕ) (over : Option ℕ) (child : Result (List Letter) ApplyStop)
-    (p : LogPlace) (count : ℕ) (standing : List (Option ℕ)) → id ≡ count
-    → with_child r cell over child ≡ Ok p → IsAt r count standing
-    → IsPlaceAt p (count + 1) (set standing cell (Some id))
-child_at r cell id over (Ok child) p count standing next is now =
-    subst (λ (q : LogPlace). IsPlaceAt q (count + 1) (set standing cell (Some id)))
-    (place_is (Within (reader_with_newcomer r Placing cell over child (r.births + 1))) p is)
-    (newcomer_at r Placing cell id over child (r.births + 1) count standing next now)
-child_at r cell id over (Err stop) p count standing next is now = absurd cc
-
--- where a birth leads to a place, its parent has a lower id, and the child stands in the cell
-born_at : (r : Reader) (cell id parent : ℕ) (over : Option ℕ) (birth : BirthRecord)
-    (found : Option (List Letter)) (p : LogPlace) (count : ℕ) (standing : List (Option ℕ))
-    → id ≡ count
-    → kept_parent r parent ≡ found → with_parent r cell over birth found ≡ Ok p
-    → IsAt r count standing → (parent < count)
-    × IsPlaceAt p (count + 1) (set standing cell (Some id))
-born_at r cell id parent over birth None p count standing next from is now = absurd cc
-born_at r cell id parent over birth (Some letters) p count standing next from is now = (
-  let within = parent_within r parent letters (nat_lt parent r.newest) from in
-      omega (arith, within, now.as_many),
-  child_at r cell id over (child_of letters birth) p count standing next is now,
-)
-
--- a birth line that is told has the next id and an older parent, and the child stands in the cell
-pub birth_at : (test : Bool) (r : Reader) (cell id parent : ℕ) (over : Option ℕ)
-    (birth : BirthRecord) (p : LogPlace) (count : ℕ) (standing : List (Option ℕ))
-    → (test ≡ true → id ≡ count)
-    → (if test then with_parent r cell over birth (kept_parent r parent) else Err BadOrder) ≡ Ok p
-    → IsAt r count standing → (id ≡ count) × (parent < count)
-    × IsPlaceAt p (count + 1) (set standing cell (Some id))
-birth_at true r cell id parent over birth p count standing next is now =
-    let born = born_at r cell id parent over birth (kept_parent r parent) p count standing
-    (next refl) refl is now in
-    (next refl, born.0, born.1)
-birth_at false r cell id parent over birth p count standing next is now = absurd cc
-
--- after the last line there are as many ids, and all stand as before
-pub end_at : (test : Bool) (r : Reader) (p : LogPlace) (count : ℕ) (standing : List (Option ℕ))
-    → ◌≡◌ {A = Result LogPlace Reason} (if test then Ok (After r) else Err BadOrder) (Ok p)
-    → IsAt r count standing → IsPlaceAt p count standing
-end_at true r p count standing is now =
-    subst (λ (q : LogPlace). IsPlaceAt q count standing) (place_is (After r) p is) now
-end_at false r p count standing is now = absurd cc

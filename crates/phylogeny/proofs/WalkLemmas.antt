@@ -1,10 +1,9 @@
 -- A walk down the ids: what is counted when it has come to a bound.
-use Rattle.std.proofs.Common.{◌≡◌, ℕ, zero, suc, ◌+◌, ◌-◌, ◌<◌, ◌≤◌, Bool, true, false, cond, eqb, ltb, List, [], ◌∷◌, Option, Some, None, length, get_or, set, max, add-one, refl, sym, ap, ◌∙◌, arith, inl, inr}
+use Rattle.std.proofs.Common.{◌≡◌, ℕ, zero, suc, ◌+◌, ◌-◌, ◌<◌, ◌≤◌, Bool, true, false, cond, eqb, ltb, List, [], ◌∷◌, Option, Some, None, length, get_or, set, max, add-one, refl, sym, ap, ◌∙◌, arith}
 use Rattle.std.specs.Prelude.{count_by, filter, nat_le}
 use Rattle.std.specs.List.{AllByRecursion, range_with_len, reduce}
 use Rattle.std.specs.Option.{option_map_or, option_or}
 use Rattle.std.proofs.Math.ListN.{length-set}
-use Rattle.std.proofs.lemmas.Bool.{cases_Bool}
 use Rattle.std.proofs.lemmas.Bool.Decides.{nat_tests}
 use Rattle.std.proofs.lemmas.Grind.{common_steps}
 use Rattle.std.proofs.lemmas.List.Sums.{count_by-le-length, length-filter}
@@ -128,17 +127,16 @@ module _ (parents standing : List (Option ℕ)) where
         → count_by (is_child tree id) (kept_from 0) ≡ count_by (is_child tree id) (kept_from bound)
     children_from id zero few within = refl
     children_from id (suc bound) few within =
-        children_from id bound (omega arith) (omega arith)
-        ∙ elim (cases_Bool (is_kept_id tree bound)) [
-          | inl kept ↦
-              ap (count_by (is_child tree id)) (kept_yes bound (omega arith) kept)
-              ∙ count_no (is_child tree id) bound (kept_from (bound + 1))
-              (not_child id bound (omega arith))
-              ∙ ap (λ (n : ℕ). count_by (is_child tree id) (kept_from n)) (add-one bound)
-          | inr left ↦
-              ap (count_by (is_child tree id)) (kept_no bound (omega arith) left)
-              ∙ ap (λ (n : ℕ). count_by (is_child tree id) (kept_from n)) (add-one bound)
-        ]
+        let step : count_by (is_child tree id) (kept_from bound)
+        ≡ count_by (is_child tree id) (kept_from (bound + 1)) =
+        grind (
+          arith,
+          kept_yes bound (omega arith),
+          kept_no bound (omega arith),
+          count_no (is_child tree id) bound (kept_from (bound + 1))
+              (not_child id bound (omega arith)),
+        ) in
+        rw (children_from id bound (omega arith) (omega arith), step, add-one)
 
     -- an id is a branch where it has at least two children among the kept ids above it
     branch_test : (id : ℕ) → id < length parents
