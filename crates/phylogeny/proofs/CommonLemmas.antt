@@ -2,7 +2,7 @@
 use Rattle.std.proofs.Common.{◌≡◌, ℕ, zero, suc, ◌+◌, ◌-◌, ◌<◌, ◌≤◌, Bool, true, false, eqb, List, [], ◌∷◌, Option, Some, None, length, get_or, max, unwrap_or, refl, sym, ap, subst, ◌∙◌, arith, inl, inr}
 use Rattle.std.specs.Prelude.{All, Contains, filter}
 use Rattle.std.specs.List.{fold, last_or, list_all, list_any, range_with_len, reduce}
-use Rattle.std.proofs.lemmas.Bool.{cases_Bool, or_cases, or_left, or_right}
+use Rattle.std.proofs.lemmas.Bool.{cases_Bool, eqb-true, or_cases, or_left, or_right}
 use Rattle.std.proofs.lemmas.Bool.Decides.{nat_tests}
 use Rattle.std.proofs.lemmas.Grind.{common_steps}
 use Rattle.std.proofs.lemmas.List.Elements.{All-contains, Contains-get_or}
@@ -18,10 +18,6 @@ use Rattle.phylogeny.proofs.TokenLemmas.{is_among, none_above}
 use Rattle.phylogeny.proofs.WalkLemmas.{everybody, kept_from, kept_is_all, tree}
 
 -- ---- lists of numbers
-
--- two numbers that the test calls equal are equal
-eqb_same : (a b : ℕ) → eqb a b ≡ true → a ≡ b
-eqb_same a b is = grind (arith, nat_tests)
 
 -- the greatest is among them, and none is greater
 fold_greatest : (x : ℕ) (xs : List ℕ) → (is_among (fold max x xs) (x ∷ xs) ≡ true)
@@ -220,7 +216,7 @@ module _ (parents standing : List (Option ℕ)) (sound : IsPedigree parents stan
       ≡ true)
       (everybody parents standing) (λ other lives.
       let one : founding_ancestor_of here other.id ≡ founding_ancestor_of here who.id =
-      eqb_same (founding_ancestor_of here other.id) (founding_ancestor_of here who.id)
+      eqb-true (founding_ancestor_of here other.id) (founding_ancestor_of here who.id)
       (each_passes (same_founder who) (everybody parents standing) all other lives) in
       subst (λ (f : ℕ). is_among f (line (parent_at parents) other.id) ≡ true) one
       (founder_among (parent_at parents) sound.older other.id)))

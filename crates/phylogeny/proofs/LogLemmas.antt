@@ -1,11 +1,10 @@
 -- The lines of a good log tell a pedigree: ids are counted, and parents came before.
-use Rattle.std.proofs.Common.{◌≡◌, ◌≢◌, ℕ, zero, suc, ◌+◌, ◌*◌, ◌<◌, ◌≤◌, Bool, true, false, cond, eqb, List, [], ◌∷◌, Option, Some, None, Ok, length, map, get_or, set, mul-le-mul, refl, sym, ap, ◌∙◌, arith}
+use Rattle.std.proofs.Common.{◌≡◌, ◌≢◌, ℕ, zero, suc, ◌+◌, ◌*◌, ◌<◌, ◌≤◌, Bool, cond, eqb, List, [], ◌∷◌, Option, Some, None, Ok, length, map, get_or, set, mul-le-mul, eq-eqb, ne_eqb, refl, sym, ap, ◌∙◌, arith}
 use Rattle.std.specs.Prelude.{◌==◌, flat_map, slice_get}
 use Rattle.std.specs.List.{range_with_len}
 use Rattle.std.specs.Option.{option_or}
 use Rattle.std.proofs.Math.ListN.{length-replicate, length-set}
 use Rattle.std.proofs.lemmas.Bool.{eqb-true}
-use Rattle.std.proofs.lemmas.Bool.Decides.{nat_tests}
 use Rattle.std.proofs.lemmas.Option.{slice_get_within}
 use Rattle.instruction_set.specs.declared.letter.Letter.{Letter}
 use Rattle.log_lines.specs.Line.{Line, Start, Death, Birth, Injected, Cleared, Rate, Count, End}
@@ -46,14 +45,6 @@ nothing_follows count standing below = record {
   below = λ cell id is. let b = below cell id is in omega arith;
   cells = refl;
 }
-
--- the test tells two different numbers apart
-eqb_apart : (a b : ℕ) → a ≢ b → eqb a b ≡ false
-eqb_apart a b apart = grind (arith, nat_tests)
-
--- a number is equal to itself, by the test
-eqb_itself : (a : ℕ) → eqb a a ≡ true
-eqb_itself a = grind (arith, nat_tests)
 
 -- an option, or else none, is that option
 or_none : (o : Option ℕ) → option_or o None ≡ o
@@ -122,13 +113,13 @@ comes : (count : ℕ) (standing next : List (Option ℕ)) (line : Line) (parent 
 comes count standing next line parent lines somebody its_parent told older stands cells follows =
     let other : (id : ℕ) → count ≢ id
     → parent_by_lines (line ∷ lines) id ≡ parent_by_lines lines id =
-    λ id apart. rw (told id, eqb_apart count id apart) refl in
+    λ id apart. rw (told id, ne_eqb count id apart) refl in
     record {
       older = rw its_parent (older_still count parent (parents_in lines) older follows.older);
       early = λ id few. other id (λ e. absurd (omega arith)) ∙ follows.early id (omega arith);
       looked = rw its_parent (looked_still count parent (parents_in lines)
           (parent_by_lines (line ∷ lines)) (parent_by_lines lines) other
-          (rw (told count, eqb_itself count, follows.early count (omega arith)) (or_none parent))
+          (rw (told count, eq-eqb count count refl, follows.early count (omega arith)) (or_none parent))
           follows.looked);
       ids = rw (somebody, its_parent) (ap (λ (ids : List ℕ). count ∷ ids) follows.ids);
       below = rw (its_parent, stands)
