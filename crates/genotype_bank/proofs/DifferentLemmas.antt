@@ -1,5 +1,5 @@
 -- The different ones of some genomes, as they come one after another.
-use Rattle.std.proofs.Common.{◌≡◌, ◌≢◌, ◌⊎◌, refl, sym, ◌∙◌, ap, subst, inl, inr, true≢false, arith, ℕ, Bool, true, false, cond, not, List, [], ◌∷◌, ◌++◌, map, Contains, Option, append-nil, append_assoc, zero, suc, Some, slice_get, length, length-append, get_or, ◌+◌, ◌<◌}
+use Rattle.std.proofs.Common.{◌≡◌, ◌≢◌, ◌⊎◌, refl, sym, ◌∙◌, ap, subst, inl, inr, true≢false, arith, ℕ, Bool, true, false, cond, not, List, [], ◌∷◌, ◌++◌, map, Contains, Option, append-nil, append_assoc, Some, slice_get, length, length-append, ◌+◌}
 use Rattle.std.specs.Prelude.{◌↔◌, AllPairs, nat_lt}
 use Rattle.std.proofs.lemmas.Bool.{cases_Bool, lt-ltb, le-ltb}
 use Rattle.std.specs.Cmp.{IsEquivalence}
@@ -9,9 +9,9 @@ use Rattle.std.specs.List.{filter, list_any, cons_option}
 use Rattle.std.specs.Bool.{Decides}
 use Rattle.std.proofs.lemmas.Bool.Decides.{same_from_decides}
 use Rattle.std.proofs.lemmas.Grind.{common_steps}
-use Rattle.std.proofs.lemmas.List.{map_push}
+use Rattle.std.proofs.lemmas.List.{get_or_append_left, map_push}
 use Rattle.std.proofs.lemmas.Map.Views.{Contains-from_any, list_any-from_Contains}
-use Rattle.std.proofs.lemmas.Option.{slice_get_within, get_or_from_slice_get}
+use Rattle.std.proofs.lemmas.Option.{slice_get_read, slice_get_within, get_or_from_slice_get}
 use Rattle.std.proofs.lemmas.List.Elements.{filter-append, filter_map-append, Contains-append_left, Contains-get_or, Contains-push, Contains-push_cases}
 use Rattle.std.proofs.lemmas.List.Sorted.{IsPermutation-sym}
 use Rattle.std.specs.List.Sorted.{IsPermutation}
@@ -25,6 +25,7 @@ use Rattle.genotype_bank.specs.declared.view.Call.TheVariants.{Interned, Refused
 use Rattle.genome.specs.Genomes.{different_of}
 use Rattle.genotype_bank.specs.BankHistory.{HasEachOnce, genomes_of, genotypes_of, interned_genome, with_call, with_genome}
 use Rattle.genotype_bank.specs.Seats.{NumbersAgree}
+use Rattle.genotype_bank.proofs.HistoryLemmas.{pre_trans}
 use Rattle.genotype_bank.proofs.MemberLemmas.{Contains-filter_map_permuted}
 
 -- the letters of a genome
@@ -72,25 +73,17 @@ module _ (one_list : OneList) where
   list_any-others_of x y differ (z ∷ zs) =
       grind (arith, common_steps, list_any-others_of x y differ zs, (one_list y z).0)
 
-  -- one more behind the first and the others, by whether it is the first, and whether it is among
-  -- the rest
-  with_one-cases : (y : Letters) (zs : List Letters) (x : Letters)
-      → with_genome (y ∷ others_of y zs) x ≡ y ∷ others_of y (with_genome zs x)
-  with_one-cases y zs x =
-      grind (
-        arith,
-        common_steps,
-        filter-append (λ z. not (same_letters y z)) zs (x ∷ []),
-        same-comm y x,
-        append-nil (others_of y zs),
-        list_any-others_of x y,
-      )
-
   -- the different ones of some genomes with one more, which may be one of them
   different_of_push : (xs : List Letters) (x : Letters)
       → different_of (xs ++ x ∷ []) ≡ with_genome (different_of xs) x
   different_of_push [] x = refl
-  different_of_push (y ∷ ys) x = rw (different_of_push ys x, with_one-cases y (different_of ys) x)
+  different_of_push (y ∷ ys) x =
+      let zs = different_of ys in
+      let behind = filter-append (λ z. not (same_letters y z)) zs (x ∷ []) in
+      let none = append-nil (others_of y zs) in
+      let same = same-comm y x in
+      rw (different_of_push ys x)
+      (grind (arith, common_steps, behind, same, none, list_any-others_of x y))
 
   -- the genotypes of a history with one more call
   pub genotypes_of_push : (history : List Entry) (last : Entry)
@@ -114,17 +107,12 @@ module _ (one_list : OneList) where
         | inr new ↦ rw new (genome ∷ [], refl)
       ]
 
-  -- a prefix of a prefix is a prefix
-  IsPrefix-trans : (xs ys zs : List Letters) → IsPrefix xs ys → IsPrefix ys zs → IsPrefix xs zs
-  IsPrefix-trans xs ys zs a b =
-      (a.0 ++ b.0, rw (← append_assoc xs a.0 b.0, a.1) b.1)
-
   -- the different ones of some genomes come first where more genomes come behind
   different_of-longer : (xs ys : List Letters)
       → IsPrefix (different_of xs) (different_of (xs ++ ys))
   different_of-longer xs [] = ([], simp append-nil)
   different_of-longer xs (y ∷ ys) = rw (← append_assoc xs (y ∷ []) ys)
-      (IsPrefix-trans (different_of xs) (different_of (xs ++ y ∷ [])) _
+      (pre_trans (different_of xs) (different_of (xs ++ y ∷ [])) _
       (rw (different_of_push xs y) (with_genome-begins (different_of xs) y))
       (different_of-longer (xs ++ y ∷ []) ys))
 
@@ -264,13 +252,10 @@ module _ (one_list : OneList) where
   -- what has a place in a prefix has the same place in the whole
   slice_get-begins : (xs ys : List Letters) (i : ℕ) (x : Letters) → IsPrefix xs ys
       → slice_get xs i ≡ Some x → slice_get ys i ≡ Some x
-  slice_get-begins xs ys i x p e = rw (← p.1) (front xs i e)
-    where
-      front : (xs : List Letters) (i : ℕ) → slice_get xs i ≡ Some x
-          → slice_get (xs ++ p.0) i ≡ Some x
-      front [] i e = absurd cc
-      front (z ∷ zs) zero e = e
-      front (z ∷ zs) (suc i) e = front zs i e
+  slice_get-begins xs ys i x p e =
+      let low = slice_get_within xs i x e in
+      rw (← p.1) (slice_get_read (xs ++ p.0) _ i x refl (omega (arith, low, length-append xs p.0))
+      (sym (get_or_append_left xs p.0 x i low ∙ get_or_from_slice_get xs i x x e)))
 
   -- how many numbers were given, from the number of the last genome
   pub length-with_genome : (known : List Letters) (new : Letters) (number : ℕ)
@@ -287,31 +272,20 @@ module _ (one_list : OneList) where
       by false e at = dite (dec_lt number (length known))
           (λ lt. absurd (true≢false
           (sym (list_any-from_Contains same_letters-equivalence new known
-          (subst (Contains known) (front at lt) (Contains-get_or known number new lt))) ∙ e)))
+          (subst (Contains known) (sym (get_or_append_left known (new ∷ []) new number lt)
+          ∙ get_or_from_slice_get (known ++ new ∷ []) number new new at)
+          (Contains-get_or known number new lt))) ∙ e)))
           (λ ge. rw (le-ltb number (length known) (omega arith)) (let w =
           slice_get_within (known ++ new ∷ []) number new at in omega (arith, length-append known (new ∷ []))))
-        where
-          slice_get-front : (xs : List Letters) (i : ℕ) → i < length xs
-              → slice_get (xs ++ new ∷ []) i ≡ slice_get xs i
-          slice_get-front [] i lt = absurd (let z : i < 0 = lt in omega arith)
-          slice_get-front (x ∷ xs) zero lt = refl
-          slice_get-front (x ∷ xs) (suc i) lt = slice_get-front xs i (omega arith)
-
-          front : slice_get (known ++ new ∷ []) number ≡ Some new → number < length known
-              → get_or known number new ≡ new
-          front at lt = get_or_from_slice_get known number new new
-              (sym (slice_get-front known number lt) ∙ at)
 
   -- where no two genomes are equal, each has one place
   one_place : (xs : List Letters) → AreApart xs → (i j : ℕ) (x : Letters) → slice_get xs i ≡ Some x
       → slice_get xs j ≡ Some x → i ≡ j
-  one_place xs apart i j x a b = dite (dec_lt i j)
-      (λ lt. absurd (apart i j x lt (slice_get_within xs j x b)
-      (get_or_from_slice_get xs i x x a ∙ sym (get_or_from_slice_get xs j x x b))))
+  one_place xs apart i j x a b =
+      let e = get_or_from_slice_get xs i x x a ∙ sym (get_or_from_slice_get xs j x x b) in
+      dite (dec_lt i j) (λ lt. absurd (apart i j x lt (slice_get_within xs j x b) e))
       (λ ge. dite (dec_lt j i)
-      (λ lt. absurd (apart j i x lt (slice_get_within xs i x a)
-      (get_or_from_slice_get xs j x x b ∙ sym (get_or_from_slice_get xs i x x a))))
-      (λ le. omega arith))
+      (λ lt. absurd (apart j i x lt (slice_get_within xs i x a) (sym e))) (λ le. omega arith))
 
   -- in a list that has each genome once, two places are equal exactly where the genomes are
   pub one_number : (bank genomes : List Letters) (number other : ℕ) (genome twin : Letters)

@@ -41,18 +41,14 @@ second_case gives = ⊎_elim inl (λ second. inr (second.0, gives second.1))
 pub nothing_there : {A : Type 0} (k : ℕ) (a : A) → get_elem? [] k ≡ some a → ⊥
 nothing_there k a e = some-ne-none a (sym e)
 
--- the calls stay the same where a number is added that none of the others has
-pub has_more : (id n : ℕ) (c : List ℕ) → (n ≡ id → is_among id c ≡ true)
-    → is_among n (id ∷ c) ≡ is_among n c
-has_more id n c known = grind (arith, common_steps, nat_tests, known)
-
 -- one number more adds no calls, if it is one of the others where a call has it
 pub own_more : (id : ℕ) (c : List ℕ) (h : List Entry)
     → ((i : ℕ) (e : Entry) → get_elem? h i ≡ some e → e.seat ≡ id → is_among id c ≡ true)
     → calls_under (id ∷ c) h ≡ calls_under c h
 own_more id c [] known = refl
 own_more id c (e ∷ es) known =
-    rw (has_more id e.seat c (known 0 e refl), own_more id c es (λ k. known (suc k)))
+    let rest = own_more id c es (λ k. known (suc k)) in
+    grind (arith, common_steps, nat_tests, known 0 e refl, rest)
 
 -- what stands in a beginning stands in the whole
 pub in_front : {A : Type 0} (h history : List A) (i : ℕ) (e : A) → IsPrefix h history
@@ -90,7 +86,8 @@ own_seen c h history pre saw =
     rw (← pre.1) (own_front c h pre.0 (rw pre.1 saw))
 
 -- a prefix of a prefix is a prefix
-pub pre_trans : (xs ys zs : List Entry) → IsPrefix xs ys → IsPrefix ys zs → IsPrefix xs zs
+pub pre_trans : {A : Type 0} (xs ys zs : List A) → IsPrefix xs ys → IsPrefix ys zs
+    → IsPrefix xs zs
 pre_trans xs ys zs a b = (a.0 ++ b.0, sym (append_assoc xs a.0 b.0) ∙ ap (λ l. l ++ b.0) a.1 ∙ b.1)
 
 -- all calls are under numbers that each call has one of
@@ -108,10 +105,6 @@ pre_two (x ∷ xs) [] history a b le = absurd (omega arith)
 pre_two (x ∷ xs) (y ∷ ys) history a b le =
     let t = pre_two xs ys (ys ++ b.0) (a.0, cc (a.1, b.1)) (b.0, refl) (omega arith) in
     (t.0, cc (t.1, a.1, b.1))
-
--- a beginning is not longer than the history
-pub pre_length : (xs ys : List Entry) → IsPrefix xs ys → length xs ≤ length ys
-pre_length xs ys p = rw (← p.1, length-append xs p.0) (omega arith)
 
 -- a beginning that is not shorter than the history is the history
 pub pre_whole : (xs history : List Entry) → IsPrefix xs history → length history ≤ length xs

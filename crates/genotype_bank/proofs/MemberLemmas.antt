@@ -31,13 +31,10 @@ module _ {X Y : Type 0} (f : X → Option Y) where
   Contains-filter_map [] x y h e = absurd (Contains-nil x h)
   Contains-filter_map (z ∷ xs) x y h e = ⊎_elim
       (λ (i : z ≡ x). rw (i, e) (Contains-here y (filter_map f xs) y refl))
-      (λ (r : Contains xs x). by (f z) (Contains-filter_map xs x y r e))
+      (λ (r : Contains xs x). let k = Contains-filter_map xs x y r e in
+      elim (f z) as (λ o. Contains (cons_option o (filter_map f xs)) y)
+      [ None ↦ k | Some w ↦ Contains-cons w (filter_map f xs) y k ])
       (Contains-cons_cases z xs x h)
-    where
-      by : (o : Option Y) → Contains (filter_map f xs) y
-          → Contains (cons_option o (filter_map f xs)) y
-      by None k = k
-      by (Some w) k = Contains-cons w (filter_map f xs) y k
 
   -- a value that is kept is that of a member
   Contains-filter_map_cases : (xs : List X) (y : Y) → Contains (filter_map f xs) y

@@ -1,5 +1,5 @@
 -- A bank begins; seats are split and joined; a bank is closed. Each step keeps the rule.
-use Rattle.std.proofs.Common.{◌≡◌, ℕ, zero, suc, ◌+◌, ◌-◌, ◌<◌, ◌≤◌, List, [], ◌∷◌, ◌++◌, length, set, get_or, true, false, refl, sym, ap, ◌∙◌, subst, inl, inr, ⊎_elim, arith, Option, Some, None}
+use Rattle.std.proofs.Common.{◌≡◌, ◌⊎◌, ℕ, zero, suc, ◌+◌, ◌-◌, ◌<◌, ◌≤◌, List, [], ◌∷◌, length, set, get_or, true, false, refl, sym, ap, ◌∙◌, subst, inl, inr, ⊎_elim, arith, Option, Some, None}
 use mathlib.Core.Option.{some, none, some-injective}
 use mathlib.Core.Logic.{dite}
 use mathlib.Core.List.{IsPrefix}
@@ -11,12 +11,12 @@ use Rattle.genotype_bank.specs.declared.catalog.Catalog.{Catalog}
 use Rattle.genotype_bank.specs.declared.view.View.{View}
 use Rattle.genotype_bank.specs.declared.view.Memo.{Memo}
 use Rattle.genotype_bank.specs.declared.view.Entry.{Entry}
-use Rattle.genotype_bank.specs.BankHistory.{genotypes_of, is_among}
+use Rattle.genotype_bank.specs.BankHistory.{genotypes_of}
 use Rattle.genotype_bank.specs.Seats.{all_shares}
-use Rattle.genotype_bank.specs.Views.{idle_view, first_view, spent_view, seat_share, draws_of, one_if, Carries, FitsHistory, SomeSeat, NumbersArePlaces, SawOwn}
+use Rattle.genotype_bank.specs.Views.{idle_view, first_view, spent_view, seat_share, draws_of, one_if, Carries, FitsHistory, SomeSeat}
 use Rattle.genotype_bank.specs.Catalog.{genomes_in}
 use Rattle.genotype_bank.specs.BankTable.{IsBankTable, Seated}
-use Rattle.genotype_bank.specs.BankSteps.{kept_half, new_half, joined_view, longer, memo_of, HasRecalled}
+use Rattle.genotype_bank.specs.BankSteps.{kept_half, new_half, joined_view, memo_of, HasRecalled}
 use Rattle.genotype_bank.proofs.ViewLemmas.{within, one_there, total_set, total_snoc, each_set, each_snoc, only_set, only_keep, only_snoc, seats_kept, some_set, some_snoc, placed_set, placed_keep, placed_snoc, total_ge, set_swap}
 use Rattle.genotype_bank.proofs.HistoryLemmas.{none_some, off, nothing_there, in_front, own_seen, own_all, second_case, pre_two, pre_whole, pick, longer_least, either_has, has_left, has_right}
 use Rattle.genotype_bank.proofs.TableLemmas.{fits_rest, fits_idle, fits_new, others_spent, carried_all, whole_seen}
@@ -29,32 +29,23 @@ begins d empty = record {
   drawn = 0;
   words = refl;
   out = refl;
-  turn = λ t j k v w ej ek a b. place j v ej ∙ sym (place k w ek);
+  turn = λ t j k v w ej ek a b. (place j v ej).0 ∙ sym (place k w ek).0;
   seats = record {
     shares = refl;
-    apart = λ n j k v w ej ek a b. place j v ej ∙ sym (place k w ek);
-    placed = none_carried;
+    apart = λ n j k v w ej ek a b. (place j v ej).0 ∙ sym (place k w ek).0;
+    placed = λ j v n e c. absurd (off (rw (← (place j v e).1) at c));
     called = λ k e at. absurd (nothing_there k e at);
     known = (0, first_view, refl, refl);
   };
-  each = one;
+  each = λ j v e. rw (← (place j v e).1) (fits_rest [] 0 all_shares [] [] ([], refl)
+      (λ s. absurd (let h : 4294967296 ≡ 0 = s in omega arith)) (λ i e there c. absurd (off c)));
   state = inl (d, refl, empty);
 }
   where
-    place : (j : ℕ) (v : View) → get_elem? (first_view ∷ []) j ≡ some v → j ≡ 0
-    place zero v e = refl
+    place : (j : ℕ) (v : View) → get_elem? (first_view ∷ []) j ≡ some v
+        → (j ≡ 0) × (first_view ≡ v)
+    place zero v e = (refl, some-injective first_view v e)
     place (suc j) v e = absurd (nothing_there j v e)
-
-    one : (j : ℕ) (v : View) → get_elem? (first_view ∷ []) j ≡ some v → FitsHistory [] 0 v
-    one zero v e = subst (FitsHistory [] 0) (some-injective first_view v e)
-        (fits_rest [] 0 all_shares [] [] ([], refl)
-        (λ s. absurd (let h : 4294967296 ≡ 0 = s in omega arith)) (λ i e there c. absurd (off c)))
-    one (suc j) v e = absurd (nothing_there j v e)
-
-    none_carried : NumbersArePlaces (first_view ∷ [])
-    none_carried zero v n e c =
-        absurd (off (rw (← some-injective first_view v e) at c))
-    none_carried (suc j) v n e c = absurd (nothing_there j v e)
 
 -- a seat that keeps all but a share of 1, which a new seat gets, keeps the rule
 pub splits : (id : ℕ) (v : View) → 2 ≤ v.share → v.ticket ≡ None → v.holding ≡ false
@@ -108,13 +99,6 @@ splits id v two free idle' s k at =
           (λ h. absurd (off (sym idle' ∙ h))) o)) k.state;
     }
 
--- a memo of a seat that was joined from two: what it has seen begins what the longer of the two has,
--- and its calls are theirs
-abbrev FitsJoined : List Entry → View → View → Memo → Type 0
-FitsJoined history v w m = IsPrefix m.seen (longer v.seen w.seen)
-    × SawOwn m.carried m.seen history
-    × ((i : ℕ) → is_among i m.carried ≡ true → is_among i (v.carried ++ w.carried) ≡ true)
-
 -- joining a seat into another, which leaves it spent, keeps the rule
 pub joins : (id : ℕ) (v : View) (other : ℕ) (w : View) → 0 < v.share → v.ticket ≡ None
     → w.ticket ≡ None → v.holding ≡ false → w.holding ≡ false
@@ -131,6 +115,8 @@ joins id v other w pos free free' idle' idle'' s k at apart there =
     let least = longer_least v.seen w.seen in
     let pre = pick (λ l. IsPrefix l k.history) v.seen w.seen f.begins g.begins in
     let mine = set_here one id b (within one id v at1) in
+    let alone : (n : ℕ) → Carries v n → Carries w n → ⊥ =
+    λ n a c. apart (sym (k.seats.apart n id other v w at there' a c)) in
     -- a fact that some view has: the joined seat has it, or another does
     let move : (P : View → Type 0) → (P v → P b) → (P w → P b) → SomeSeat P s.views
     → SomeSeat P (set one id b) = λ P from_v from_w c.
@@ -210,7 +196,8 @@ joins id v other w pos free free' idle' idle'' s k at apart there =
       };
       each = each_set (λ j u. FitsHistory k.history k.drawn u) one id b
           (λ j u _ e. each_set (λ j u. FitsHistory k.history k.drawn u) s.views other spent_view
-          (λ j u _ e. k.each j u e) (spent_fits k.history k.drawn) j u e)
+          (λ j u _ e. k.each j u e) (fits_rest k.history k.drawn 0 [] [] (k.history, refl)
+          (λ _. refl) (λ i e x c. absurd (off c))) j u e)
           record {
             begins = pre;
             spent = λ e. absurd (let z : v.share + w.share ≡ 0 = e in omega arith);
@@ -219,52 +206,39 @@ joins id v other w pos free free' idle' idle'' s k at apart there =
             saw = λ i e x c. ⊎_elim (λ a. let z = f.saw i e x a in let y = least.0 in omega arith)
                 (λ a. let z = g.saw i e x a in let y = least.1 in omega arith)
                 (either_has e.seat v.carried w.carried c);
-            recalls = recall k.history v w pre f.begins g.begins f.saw g.saw;
-            once = two v w (λ n a c. apart (sym (k.seats.apart n id other v w at there' a c)));
+            recalls = λ n m e. elim (memos v w n m e) [
+              | inl is ↦ rw (← is.1) (
+                pre_two v.seen b.seen k.history f.begins pre least.0,
+                f.saw,
+                λ i h. has_left i v.carried w.carried h,
+              )
+              | inr is ↦ rw (← is.1) (
+                pre_two w.seen b.seen k.history g.begins pre least.1,
+                g.saw,
+                λ i h. has_right i v.carried w.carried h,
+              )
+            ];
+            once = λ i j x y n ex ey cx cy. elim (memos v w i x ex) [
+              | inl a ↦ elim (memos v w j y ey) [
+                | inl c ↦ a.0 ∙ sym c.0
+                | inr c ↦ absurd (alone n (rw (← a.1) at cx) (rw (← c.1) at cy))
+              ]
+              | inr a ↦ elim (memos v w j y ey) [
+                | inl c ↦ absurd (alone n (rw (← c.1) at cy) (rw (← a.1) at cx))
+                | inr c ↦ a.0 ∙ sym c.0
+              ]
+            ];
           };
       state = second_case
           (move (λ (u : View). u.holding ≡ true) (λ h. absurd (off (sym idle' ∙ h)))
           (λ h. absurd (off (sym idle'' ∙ h)))) k.state;
     }
   where
-    spent_fits : (history : List Entry) (drawn : ℕ) → FitsHistory history drawn spent_view
-    spent_fits history drawn = fits_rest history drawn 0 [] [] (history, refl) (λ _. refl)
-        (λ i e x c. absurd (off c))
-
-    recall : (history : List Entry) (v w : View) → IsPrefix (longer v.seen w.seen) history
-        → IsPrefix v.seen history → IsPrefix w.seen history → SawOwn v.carried v.seen history
-        → SawOwn w.carried w.seen history
-        → (n : ℕ) (m : Memo) → get_elem? (memo_of v ∷ memo_of w ∷ []) n ≡ some m
-        → FitsJoined history v w m
-    recall history v w p a b sv sw zero m e =
-        subst (FitsJoined history v w) (some-injective (memo_of v) m e) (
-          pre_two v.seen (longer v.seen w.seen) history a p (longer_least v.seen w.seen).0,
-          sv,
-          λ i h. has_left i v.carried w.carried h,
-        )
-    recall history v w p a b sv sw (suc zero) m e =
-        subst (FitsJoined history v w) (some-injective (memo_of w) m e) (
-          pre_two w.seen (longer v.seen w.seen) history b p (longer_least v.seen w.seen).1,
-          sw,
-          λ i h. has_right i v.carried w.carried h,
-        )
-    recall history v w p a b sv sw (suc (suc n)) m e = absurd (nothing_there n m e)
-
-    two : (v w : View) → ((n : ℕ) → Carries v n → Carries w n → ⊥) → (i j : ℕ) (x y : Memo) (n : ℕ)
-        → get_elem? (memo_of v ∷ memo_of w ∷ []) i ≡ some x
-        → get_elem? (memo_of v ∷ memo_of w ∷ []) j ≡ some y → is_among n x.carried ≡ true
-        → is_among n y.carried ≡ true → i ≡ j
-    two v w no' zero zero x y n a b c d = refl
-    two v w no' zero (suc zero) x y n a b c d =
-        absurd (no' n (rw (← some-injective (memo_of v) x a) at c)
-        (rw (← some-injective (memo_of w) y b) at d))
-    two v w no' (suc zero) zero x y n a b c d =
-        absurd (no' n (rw (← some-injective (memo_of v) y b) at d)
-        (rw (← some-injective (memo_of w) x a) at c))
-    two v w no' (suc zero) (suc zero) x y n a b c d = refl
-    two v w no' (suc (suc i)) j x y n a b c d = absurd (nothing_there i x a)
-    two v w no' zero (suc (suc j)) x y n a b c d = absurd (nothing_there j y b)
-    two v w no' (suc zero) (suc (suc j)) x y n a b c d = absurd (nothing_there j y b)
+    memos : (v w : View) (n : ℕ) (m : Memo) → get_elem? (memo_of v ∷ memo_of w ∷ []) n ≡ some m
+        → ((n ≡ 0) × (memo_of v ≡ m)) ⊎ ((n ≡ 1) × (memo_of w ≡ m))
+    memos v w zero m e = inl (refl, some-injective (memo_of v) m e)
+    memos v w (suc zero) m e = inr (refl, some-injective (memo_of w) m e)
+    memos v w (suc (suc n)) m e = absurd (nothing_there n m e)
 
 -- a joined seat learns of the seats that it was joined from, and keeps the rule
 pub recalls : (slots id : ℕ) (m : Seated) → 0 < m.0.share → m.0.ticket ≡ None → m.0.holding ≡ false

@@ -107,12 +107,8 @@ pub some_set : (P : View → Type 0) (views : List View) (id : ℕ) (v w : View)
     → get_elem? views id ≡ some v → (P v → P w) → SomeSeat P views → SomeSeat P (set views id w)
 some_set P views id v w at on (j, u, e, p) =
     dite (ℕ_discrete j id)
-    (λ is. (
-      id,
-      w,
-      set_here views id w (within views id v at),
-      on (subst P (one_there views id u v (rw is at e) at) p),
-    ))
+    (λ is. let here = set_here views id w (within views id v at) in
+    (id, w, here, on (subst P (one_there views id u v (rw is at e) at) p)))
     (λ ne. (j, u, set_else views id j w ne ∙ e, p))
 
 -- some seat is so still once one more has come
@@ -131,13 +127,8 @@ placed_set views id v w at alive new placed j x n e c =
     → j' ≡ j → (u : View) × (get_elem? (set views id w) n ≡ some u) × (0 < u.share → j ≡ n) =
     λ j' p is.
     dite (ℕ_discrete n id)
-    (λ here. (
-      w,
-      rw here mine,
-      λ pos. sym is
-          ∙ p.2 (subst (λ (u : View). 0 < u.share) (one_there views id v p.0 at (rw here at p.1))
-          (alive pos)),
-    ))
+    (λ here. let v_is = one_there views id v p.0 at (rw here at p.1) in
+    (w, rw here mine, λ pos. sym is ∙ p.2 (subst (λ (u : View). 0 < u.share) v_is (alive pos))))
     (λ ne. (p.0, set_else views id n w ne ∙ p.1, λ pos. sym is ∙ p.2 pos)) in
     elim (at_set views id j w x e) [
       | inl a ↦ old id (new n (subst (λ (u : View). Carries u n) (sym a.1) c)) (sym a.0)
