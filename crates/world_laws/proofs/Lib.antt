@@ -1,4 +1,4 @@
-mod ListLemmas
+pub mod ListLemmas
 mod Mirror
 mod Scenes
 mod Steps
@@ -11,7 +11,7 @@ mod Configs
 mod Sounds
 mod Endings
 mod Runs
-mod WholeLogs
+pub mod WholeLogs
 mod FormLemmas
 mod LeavingLines
 mod Forms

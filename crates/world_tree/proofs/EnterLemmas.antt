@@ -1,10 +1,10 @@
 -- Those that come in an update enter the tree.
-use Rattle.std.proofs.Common.{◌≡◌, ◌↔◌, inl, inr, ⊎_elim, ◌∙◌, sym, ap, subst, ℕ, suc, ◌+◌, ◌<◌, ◌≤◌, List, [], ◌∷◌, ◌++◌, length, take, get_or, Some, arith}
+use Rattle.std.proofs.Common.{◌≡◌, ◌↔◌, inl, inr, ⊎_elim, ◌∙◌, sym, ap, subst, ℕ, ◌+◌, ◌<◌, ◌≤◌, List, [], ◌∷◌, ◌++◌, length, take, drop, get_or, Some, arith, add-one}
 use Rattle.std.specs.Prelude.{All, Contains, is_some, slice_get}
 use Rattle.std.proofs.lemmas.Bool.{cases_lt}
-use Rattle.std.proofs.lemmas.List.{length-take, take_all}
+use Rattle.std.proofs.lemmas.List.{length-take, take-append-drop, take_all, take_more}
 use Rattle.std.proofs.lemmas.List.Elements.{All-filter, Contains-append_left, Contains-get_or, Contains-push, Contains-push_cases}
-use Rattle.std.proofs.lemmas.Option.{slice_get-get_or}
+use Rattle.std.proofs.lemmas.Option.{get_or_from_slice_get, slice_get-get_or, slice_get_within}
 use Rattle.lineage_log.specs.Links.{Link}
 use Rattle.lineage_log.specs.Ancestry.{AreOlder, is_kept, kept_of, line_of_descent, link_of}
 use Rattle.lineage_log.specs.Trees.{TreeValue, CanCome, tree_with_newcomer}
@@ -15,9 +15,10 @@ use Rattle.world_rules.specs.Update.{next_world, world_of}
 use Rattle.world_rules.specs.WorldRun.{world_after}
 use Rattle.world_rules.specs.World.{World}
 use Rattle.world_laws.specs.Turnover.{HasBeen, IsStanding, IsTurnover}
-use Rattle.world_tree.specs.Growing.{HasBuried}
+use Rattle.world_tree.specs.Growing.{HasBuried, HasEntered}
+use Rattle.world_laws.proofs.ListLemmas.{get_left}
 use Rattle.world_tree.specs.WorldTrees.{scene_after}
-use Rattle.world_tree.proofs.NumberLemmas.{get_taken, link_at, numbered_front, older_of, standing_low, take_next}
+use Rattle.world_tree.proofs.NumberLemmas.{link_at, numbered_front, older_of, standing_low}
 
 -- what is kept goes on, as the law of that name says it
 abbrev pub KeepingLaws : Type 0
@@ -121,8 +122,12 @@ module _ (laws : KeepingLaws) {w : World} {scene : Scene} (is : IsUpdate w scene
           let low = standing_low w above is.world (stood above e) in
           let within : above < length scene.everyone = omega (arith, low, is.turnover.grown) in
           let parent = get_or scene.everyone above link in
-          let here = get_taken (first + count) scene.everyone above parent (omega (arith, low))
-          (slice_get-get_or scene.everyone above link within) in
+          let most = slice_get_within scene.everyone (first + count) link there in
+          let front : above < length before =
+          omega (arith, low, most, length-take (first + count) scene.everyone) in
+          let here = sym (get_left before (drop (first + count) scene.everyone) above front)
+          ∙ ap (λ l. slice_get l above) (take-append-drop (first + count) scene.everyone)
+          ∙ slice_get-get_or scene.everyone above link within in
           ap (λ (links : List Link). is_some (link_of links above)) entered.links
           ∙ ap is_some (laws.links before tree.living above (older_of before numbered) lives
           ∙ link_at before above parent numbered here);
@@ -137,7 +142,10 @@ module _ (laws : KeepingLaws) {w : World} {scene : Scene} (is : IsUpdate w scene
           parent_lives)
           ∙ ap (λ (links : List Link). kept_of links (tree.living ++ link.id ∷ []))
           (sym (ap (λ n. take n scene.everyone) one
-          ∙ take_next (first + count) scene.everyone link there));
+          ∙ take_more scene.everyone (first + count) link
+          (slice_get_within scene.everyone (first + count) link there)
+          ∙ ap (λ l. before ++ l ∷ [])
+          (get_or_from_slice_get scene.everyone (first + count) link link there)));
       living = λ id lives. ⊎_elim
           (λ (old : Contains tree.living id). lift id (entered.living id old))
           (λ (new : link.id ≡ id). inr (omega (arith, new, number), omega (arith, new, number)))
@@ -156,7 +164,7 @@ module _ (laws : KeepingLaws) {w : World} {scene : Scene} (is : IsUpdate w scene
           been;
     }
       where
-        one : first + (count + 1) ≡ suc (first + count)
+        one : first + (count + 1) ≡ first + count + 1
         one = omega arith
 
         lift : (id : ℕ) → HasBeen w.cells first (first + count) id
@@ -181,10 +189,7 @@ module _ (laws : KeepingLaws) {w : World} {scene : Scene} (is : IsUpdate w scene
 pub next_is : (config : ConfigValues) (n : ℕ)
     → world_after config (n + 1) ≡ world_of (scene_after config n)
 unfolding world_after next_world
-next_is config n = ap (world_after config) one where
-  -- one more than a number is its successor
-  one : n + 1 ≡ suc n
-  one = omega arith
+next_is config n = ap (world_after config) (add-one n)
 
 -- each update of a run is one
 pub update_is : (config : ConfigValues) (n : ℕ)

@@ -1,7 +1,9 @@
 -- What the tree of a world shows of it.
-use Rattle.std.proofs.Common.{◌≡◌, ◌↔◌, ◌∙◌, refl, sym, ap, subst, ℕ, zero, suc, ◌+◌, ◌*◌, ◌<◌, List, [], ◌∷◌, ◌++◌, length, replicate, get_or, Option, Some, None, Result, Ok, Err, arith}
+use Rattle.std.proofs.Common.{◌≡◌, ◌↔◌, ◌∙◌, refl, sym, ap, subst, ℕ, zero, suc, ◌+◌, ◌*◌, ◌<◌, List, [], ◌∷◌, ◌++◌, length, get_or, Option, Some, None, Result, Ok, Err, arith}
 use Rattle.std.specs.Prelude.{Contains, IfOk, filter_map, slice_get, slice_set}
 use Rattle.std.specs.Option.{option_map_or}
+use Rattle.std.proofs.lemmas.List.{length-replicate}
+use Rattle.std.proofs.lemmas.Option.{slice_get-get_or}
 use Rattle.lineage_log.specs.Links.{Link}
 use Rattle.lineage_log.specs.Ancestry.{AreOlder, kept_of, link_of}
 use Rattle.lineage_log.specs.Ancestry as tree
@@ -12,39 +14,12 @@ use Rattle.world_rules.specs.World.{Occupant, World, empty_cells, first_occupant
 use Rattle.world_rules.specs.WorldRun.{world_after}
 use Rattle.world_laws.specs.Turnover.{IsStanding}
 use Rattle.world_tree.specs.WorldTrees.{IsTreeOf, living_and_ancestors}
+use Rattle.world_laws.proofs.ListLemmas.{get_written}
+use Rattle.world_laws.proofs.WholeLogs.{only_founder}
 use Rattle.world_tree.proofs.NumberLemmas.{contains_more, link_at, older_of, standing_low}
 use Rattle.world_tree.proofs.EnterLemmas.{KeepingLaws}
 
 -- ---- the founder's world
-
--- what was put stands there
-get_set : {X : Type 0} (xs : List X) (i : ℕ) (x : X) → i < length xs
-    → slice_get (slice_set xs i x) i ≡ Some x
-get_set [] i x low = absurd (omega (arith, low))
-get_set (y ∷ xs) zero x low = refl
-get_set (y ∷ xs) (suc i) x low = get_set xs i x (omega (arith, low))
-
--- cells in which nobody stands
-abbrev nobody : ℕ → List (Option Occupant)
-nobody n = replicate n None
-
--- how many they are
-length-none : (n : ℕ) → length (nobody n) ≡ n
-length-none zero = refl
-length-none (suc n) = omega (arith, length-none n)
-
--- nobody stands there
-none_at : (n k : ℕ) (o : Occupant) → slice_get (replicate n None) k ≡ Some (Some o) → ⊥
-none_at zero k o is = cc
-none_at (suc n) zero o is = cc
-none_at (suc n) (suc k) o is = none_at n k o is
-
--- but for one who was put there
-only_one : (n i k : ℕ) (x o : Occupant)
-    → slice_get (slice_set (replicate n None) i (Some x)) k ≡ Some (Some o) → x ≡ o
-only_one (suc n) zero (suc k) x o is = absurd (none_at n k o is)
-only_one (suc n) (suc i) (suc k) x o is = only_one n i k x o is
-only_one _ _ _ x o is = cc
 
 -- the tree of the founder is that of its world
 pub tree_found : (config : ConfigValues) (tree : TreeValue)
@@ -56,10 +31,8 @@ tree_found config tree within is = subst (IsTreeOf (first_world config)) (sym is
   links = refl;
   living = λ id lives. by id lives.0 lives.1 lives.2;
   standing = λ id stands.
-      let same = ap (λ (o : Occupant). o.id)
-      (only_one (config.width * config.height) config.founder_cell stands.0
-      (first_occupant config) stands.1 stands.2) in
-      (0, omega arith, same ∙ stands.3);
+      let same = (only_founder config stands.0 stands.1 stands.2).1 in
+      (0, omega arith, ap (λ (o : Occupant). o.id) same ∙ stands.3);
 })
   where
     by : (id k : ℕ) → k < 1 → get_or (0 ∷ []) k id ≡ id
@@ -68,8 +41,8 @@ tree_found config tree within is = subst (IsTreeOf (first_world config)) (sym is
     by id zero low e = (
       config.founder_cell,
       first_occupant config,
-      get_set (empty_cells config) config.founder_cell (Some (first_occupant config))
-          (omega (arith, within, length-none (config.width * config.height))),
+      get_written (empty_cells config) config.founder_cell (Some (first_occupant config))
+          (omega (arith, within, length-replicate {A = Option Occupant} (config.width * config.height) None)),
       e,
     )
     by id (suc k) low e = absurd (omega (arith, low))
@@ -93,29 +66,20 @@ module _ (lines : LineLaws) (everyone : List Link) (are : AreNumbered everyone) 
       → tree.line_of_descent everyone id ≡ descent_line_of everyone id
   same_line_within zero id low within = absurd (omega (arith, low))
   same_line_within (suc n) id low within =
-      by (slice_get everyone id) refl
-      (λ above l. same_line_within n above (omega (arith, l, low)) (omega (arith, l, within))) where
-        by : (found : Option Link) → slice_get everyone id ≡ found
-            → ((above : ℕ) → above < id
-            → tree.line_of_descent everyone above ≡ descent_line_of everyone above)
-            → tree.line_of_descent everyone id ≡ descent_line_of everyone id
-        by None e rest = absurd (some within e) where
-          some : id < length everyone → slice_get everyone id ≡ None → ⊥
-          some within e = gone everyone id within e where
-            gone : (links : List Link) (k : ℕ) → k < length links → slice_get links k ≡ None → ⊥
-            gone [] k low e = omega (arith, low)
-            gone (l ∷ links) zero low e = cc
-            gone (l ∷ links) (suc k) low e = gone links k (omega (arith, low)) e
-        by (Some link) e rest =
-            lines.trees everyone id link (older_of everyone are) (link_at everyone id link are e)
-            ∙ ap (λ (front : List Link). front ++ link ∷ []) (up link.parent (are id link e).parent)
-            ∙ sym (lines.all everyone id link are e)
-          where
-            up : (parent : Option ℕ) → IsBelow id parent
-                → option_map_or (tree.line_of_descent everyone) parent []
-                ≡ line_of_parent (descent_lines_of everyone) parent
-            up None below = refl
-            up (Some above) below = rest above below
+      let link = get_or everyone id (founder_link 0 0 0 []) in
+      let e = slice_get-get_or everyone id (founder_link 0 0 0 []) within in
+      lines.trees everyone id link (older_of everyone are) (link_at everyone id link are e)
+      ∙ ap (λ (front : List Link). front ++ link ∷ []) (up link.parent (are id link e).parent
+      (λ above l. same_line_within n above (omega (arith, l, low)) (omega (arith, l, within))))
+      ∙ sym (lines.all everyone id link are e)
+    where
+      up : (parent : Option ℕ) → IsBelow id parent
+          → ((above : ℕ) → above < id
+          → tree.line_of_descent everyone above ≡ descent_line_of everyone above)
+          → option_map_or (tree.line_of_descent everyone) parent []
+          ≡ line_of_parent (descent_lines_of everyone) parent
+      up None below rest = refl
+      up (Some above) below rest = rest above below
 
   -- the line of an id is the same in both
   pub same_line : (id : ℕ) → id < length everyone
@@ -139,13 +103,10 @@ ids_stand : (cells : List (Option Occupant)) (id : ℕ) → Contains (filter_map
 ids_stand [] id is = absurd (omega (arith, is.1))
 ids_stand (None ∷ cells) id is =
     let rest = ids_stand cells id is in (suc rest.0, rest.1, rest.2, rest.3)
-ids_stand (Some o ∷ cells) id is = by (λ h. ids_stand cells id h) is.0 is.1 is.2 where
-  -- for an id in the first place, or in a later one
-  by : (Contains (filter_map id_of cells) id → IsStanding cells id) → (k : ℕ)
-      → k < length (o.id ∷ filter_map id_of cells)
-      → get_or (o.id ∷ filter_map id_of cells) k id ≡ id → IsStanding (Some o ∷ cells) id
-  by rest zero low e = (0, o, refl, e)
-  by rest (suc k) low e = let r = rest (k, omega (arith, low), e) in (suc r.0, r.1, r.2, r.3)
+ids_stand (Some o ∷ cells) id (zero, low, e) = (0, o, refl, e)
+ids_stand (Some o ∷ cells) id (suc k, low, e) =
+    let rest = ids_stand cells id (k, omega (arith, low), e) in
+    (suc rest.0, rest.1, rest.2, rest.3)
 
 -- who stands is among the ids in the cells
 stand_ids : (cells : List (Option Occupant)) (id k : ℕ) (o : Occupant)
@@ -153,12 +114,9 @@ stand_ids : (cells : List (Option Occupant)) (id k : ℕ) (o : Occupant)
 stand_ids [] id k o is e = absurd cc
 stand_ids (slot ∷ cells) id zero o is e =
     let same : slot ≡ Some o = cc in rw same (0, omega arith, e)
-stand_ids (slot ∷ cells) id (suc k) o is e = by slot (stand_ids cells id k o is e) where
-  -- behind an empty cell, or behind another organism
-  by : (slot : Option Occupant) → Contains (filter_map id_of cells) id
-      → Contains (filter_map id_of (slot ∷ cells)) id
-  by None rest = rest
-  by (Some x) rest = contains_more id x.id (filter_map id_of cells) rest
+stand_ids (None ∷ cells) id (suc k) o is e = stand_ids cells id k o is e
+stand_ids (Some x ∷ cells) id (suc k) o is e =
+    contains_more id x.id (filter_map id_of cells) (stand_ids cells id k o is e)
 
 -- the links of a tree are those of who stands and of their ancestors
 pub links_are : (same : (everyone : List Link) (living others : List ℕ)

@@ -9,8 +9,8 @@ use Rattle.std.proofs.lemmas.Option.{slice_get-get_or}
 use Rattle.lineage_log.specs.Links.{Link}
 use Rattle.world_config.specs.Shown.{values_of}
 use Rattle.world_rules.specs.WorldRun.{world_after}
+use Rattle.world_laws.proofs.ListLemmas.{get_dropped}
 use Rattle.world_tree.specs.WorldTrees.{scene_after}
-use Rattle.world_tree.proofs.NumberLemmas.{get_behind}
 use Rattle.world_tree.proofs.EnterLemmas.{IsUpdate, can_enter, entered_all, entered_more, update_is}
 use Rattle.world_tree.proofs.entering.enter_all.Goals.{After-into_iter-newcomer-iterator, After-keeping_goes_on, In-Some}
 use Rattle.world_tree.proofs.entering.enter_all.Goals as goal
@@ -44,9 +44,9 @@ there c road =
     let here = YieldsList-turn road so_far c.loop-newcomer.newcomer-iterator
     c.loop-newcomer.yielded_by c.next.result c.next.new.self item c.in-Some.is
     c.next.ensures.steps in
-    get_behind (length (world_after config c.args.update).everyone)
-    (scene_after config c.args.update).everyone (length so_far) item
-    (ap (λ (links : List Link). slice_get links (length so_far)) (sym c.requires.newcomers)
+    sym (get_dropped (length (world_after config c.args.update).everyone)
+    (scene_after config c.args.update).everyone (length so_far))
+    ∙ (ap (λ (links : List Link). slice_get links (length so_far)) (sym c.requires.newcomers)
     ∙ slice_get-get_or c.args.newcomers.items (length so_far) item here.0
     ∙ ap (λ (link : Link). Some link) (sym here.1))
 
