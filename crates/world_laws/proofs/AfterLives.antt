@@ -181,10 +181,12 @@ births_few_from : (config : ConfigValues) (steps : ℕ → ℕ) (from : ℕ)
     (length cells)
 births_few_from config steps from [] [] are = omega arith
 births_few_from config steps from (slot ∷ cells) (l ∷ lives) are =
+    let first = slot_few config (steps from) from slot l are.0 in
+    let rest = births_few_from config steps (from + 1) cells lives are.1 in
     omega (
       arith,
-      slot_few config (steps from) from slot l are.0,
-      births_few_from config steps (from + 1) cells lives are.1,
+      first,
+      rest,
       length-append (births_by from l.newborns l.occupant)
           (flat_map births_in (enumerate_from (from + 1) lives)),
     )

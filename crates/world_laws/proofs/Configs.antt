@@ -40,12 +40,8 @@ module _ (config : ConfigValues) (fit : IsConfig config) where
   unfolding events_at
   events_few update =
       let test = λ (event : ℕ × EventValue). event.1.update == update in
-      omega (
-        arith,
-        filter_few test (enumerate_from 1 config.event),
-        length-enumerate_from 1 config.event,
-        fit.few_events,
-      )
+      let fewer = filter_few test (enumerate_from 1 config.event) in
+      omega (arith, fewer, length-enumerate_from 1 config.event, fit.few_events)
 
   -- a world has few cells
   pub few_cells : size_of config ≤ 65536

@@ -1,10 +1,10 @@
 -- The genomes of all who ever were in a world come from their parents'.
 use Rattle.std.proofs.Common.{◌≡◌, ℕ, zero, suc, List, [], ◌∷◌, ◌++◌, Option, Some, None, refl, sym, subst, ◌∙◌, inl, inr}
-use Rattle.std.specs.Prelude.{slice_get, option_map, fold}
+use Rattle.std.specs.Prelude.{slice_get, fold}
 use Rattle.std.specs.List.{AllByRecursion}
 use Rattle.std.proofs.lemmas.Option.{slice_get-map}
-use Rattle.instruction_set.specs.declared.letter.Letter.{Letter}
 use Rattle.birth_board.specs.declared.placing.Placing.{Placing}
+use Rattle.log_lines.proofs.FieldLaws.{some_map}
 use Rattle.lineage_log.specs.Links.{Link}
 use Rattle.world_config.specs.Events.{EventValue, WhatValue, inject, clear, rate}
 use Rattle.world_config.specs.Values.{ConfigValues}
@@ -38,13 +38,6 @@ descended_more everyone new are is place link h = elim (get_last everyone new pl
       (subst (λ (l : Link). ComesFrom everyone l.parent l) last is)
 ]
 
--- the link of a genome by its id
-link_there : (slot : Option Link) (letters : List Letter)
-    → option_map (λ (l : Link). l.genome) slot ≡ Some letters
-    → (before : Link) × (slot ≡ Some before) × (before.genome ≡ letters)
-link_there None letters e = absurd cc
-link_there (Some link) letters e = (link, refl, cc)
-
 -- after a lawful birth each who ever was still comes from its parent
 descended_birth : (size : ℕ) (start : People) (config : ConfigValues) (scene : Scene)
     (turn : Delivery × Placing) → IsScene size start scene → IsTurn size start turn
@@ -54,7 +47,8 @@ descended_birth size start config scene turn is lawful are =
     let b = turn.0 in
     let wrote = sym (slice_get-map (λ (l : Link). l.genome) scene.everyone b.parent)
     ∙ is.agree b.parent lawful.letters lawful.lived in
-    let found = link_there (slice_get scene.everyone b.parent) lawful.letters wrote in
+    let before = slice_get scene.everyone b.parent in
+    let found = some_map (λ (l : Link). l.genome) before lawful.letters wrote in
     descended_more scene.everyone (birth_link (next_id scene) scene.update b turn.1.cell) are (
       found.0,
       found.1,

@@ -77,19 +77,13 @@ pub life_there : (run : ℕ → CellLife) (count cell : ℕ) (o : Occupant)
 life_there run count cell o h =
     let lives = map run (range_with_len 0 count) in
     let long : length lives ≡ count = length-map-range_with_len run 0 count in
-    let low : cell < count = omega (
-      arith,
-      slice_get_within (left_by lives) cell (Some o) h,
-      length-map lives (λ (l : CellLife). l.occupant),
-      long,
-    ) in
+    let within = slice_get_within (left_by lives) cell (Some o) h in
+    let same = length-map lives (λ (l : CellLife). l.occupant) in
+    let low : cell < count = omega (arith, within, same, long) in
     let at : get_or lives cell no_life ≡ run cell =
     get_or-map-range_with_len run 0 count cell cell no_life low (omega arith) in
-    let there = rw (
-      slice_get-map (λ (l : CellLife). l.occupant) lives cell,
-      slice_get-get_or lives cell no_life (omega (arith, low, long)),
-      at,
-    ) at h in
+    let here = slice_get-get_or lives cell no_life (omega (arith, low, long)) in
+    let there = rw (slice_get-map (λ (l : CellLife). l.occupant) lives cell, here, at) at h in
     (low, at, cc)
 
 -- what holds of the lives of all cells

@@ -48,11 +48,8 @@ organisms_few (Some o ∷ cells) = omega (arith, organisms_few cells)
 genotypes_of_few : (genomes : List (List Letter)) → length (different_of genomes) ≤ length genomes
 genotypes_of_few [] = omega arith
 genotypes_of_few (genome ∷ genomes) =
-    omega (
-      arith,
-      filter_few (λ other. not (same_letters genome other)) (different_of genomes),
-      genotypes_of_few genomes,
-    )
+    let fewer = filter_few (λ other. not (same_letters genome other)) (different_of genomes) in
+    omega (arith, fewer, genotypes_of_few genomes)
 
 -- the merits together, none of which is above the greatest
 merits_sum : (cells : List (Option Occupant)) → Each IsSoundOrganism cells
@@ -71,17 +68,10 @@ tasks_form : (cells : List (Option Occupant)) (tasks : List Task)
     → length (organisms_in cells) ≤ 65536
     → AllByRecursion IsLarge (map (credited_with cells) tasks)
 tasks_form cells [] few = tt
-tasks_form cells (t ∷ tasks) few = (
-  (
-    omega arith,
-    omega (
-      arith,
-      count_by-le-length (λ (o : OrganismState). has_task o.credited t) (organisms_in cells),
-      few,
-    ),
-  ),
-  tasks_form cells tasks few,
-)
+tasks_form cells (t ∷ tasks) few =
+    let most =
+    count_by-le-length (λ (o : OrganismState). has_task o.credited t) (organisms_in cells) in
+    ((omega arith, omega (arith, most, few)), tasks_form cells tasks few)
 
 -- what is counted has the form of its line
 pub count_form : (scene : Scene) (births : ℕ) → Each IsSoundOrganism scene.cells
@@ -93,13 +83,8 @@ count_form scene births sound small early few gone =
     let organisms = organisms_few cells in
     let living : taken (ids_of cells) ≤ 65536 =
     omega (arith, count_by-le-length is_some (ids_of cells), length-map cells id_of, small) in
-    let genomes : length (genomes_of_cells cells) ≤ 65536 =
-    omega (
-      arith,
-      length-map (organisms_in cells) (λ (o : OrganismState). o.genome),
-      organisms,
-      small,
-    ) in
+    let same = length-map (organisms_in cells) (λ (o : OrganismState). o.genome) in
+    let genomes : length (genomes_of_cells cells) ≤ 65536 = omega (arith, same, organisms, small) in
     let genotypes : length (different_of (genomes_of_cells cells)) ≤ 65536 =
     omega (arith, genotypes_of_few (genomes_of_cells cells), genomes) in
     let merit : sum_by (λ (o : OrganismState). o.merit) (organisms_in cells)

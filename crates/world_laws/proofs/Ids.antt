@@ -126,8 +126,6 @@ module _ (laws : LifeLaws) (config : ConfigValues) (fit : IsConfig config) where
     log_gives_few read lines reads =
         let both = sym (run_reads laws read config fit n early) ∙ reads in
         let same : run_lines config n ≡ lines = cc in
-        subst (All GivesSmallId) same (All-from_recursion GivesSmallId (run_lines config n) (
-          tt,
-          all_append GivesSmallId (updates_lines config n) (End n ∷ []) (small_updates n early)
-              (tt, tt),
-        ))
+        let all = all_append GivesSmallId (updates_lines config n) (End n ∷ [])
+        (small_updates n early) (tt, tt) in
+        subst (All GivesSmallId) same (All-from_recursion GivesSmallId (run_lines config n) (tt, all))

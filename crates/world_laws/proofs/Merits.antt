@@ -26,21 +26,14 @@ merits_few [] sound = omega arith
 merits_few (slot ∷ cells) sound =
     let all : sum (map merit_in (slot ∷ cells)) ≡ merit_in slot + sum (map merit_in cells) =
     sum_by-cons (λ x. x) (merit_in slot) (map merit_in cells) in
-    omega (
-      arith,
-      merit_few slot (λ o e. sound 0 o (ap Some e)),
-      merits_few cells (λ cell o h. sound (suc cell) o h),
-    )
+    let first = merit_few slot (λ o e. sound 0 o (ap Some e)) in
+    omega (arith, first, merits_few cells (λ cell o h. sound (suc cell) o h))
 
 -- the merits of a world of a run
 pub merits_after : LifeLaws → (config : ConfigValues) → IsConfig config → (n : ℕ)
     → sum (map merit_in (world_after config n).cells) ≤ 2 ^ 54
 merits_after laws config fit n =
     let is = run_after laws config fit n in
-    omega (
-      arith,
-      merits_few (world_after config n).cells is.sound,
-      length-map (world_after config n).cells merit_in,
-      is.world.sized,
-      few_cells config fit,
-    )
+    let few = merits_few (world_after config n).cells is.sound in
+    let same = length-map (world_after config n).cells merit_in in
+    omega (arith, few, same, is.world.sized, few_cells config fit)

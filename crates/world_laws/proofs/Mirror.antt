@@ -1,8 +1,7 @@
 -- What the order's reader knows of a world within an update, and what a replay has seen of it.
-use Rattle.std.proofs.Common.{◌≡◌, ℕ, List, [], ◌∷◌, ◌++◌, map, length, drop, Option, Some, Result, Ok, Err, refl, ap, ◌∙◌}
+use Rattle.std.proofs.Common.{◌≡◌, ℕ, List, [], ◌∷◌, ◌++◌, map, length, drop, Option, Some, Ok, Err, refl, ap, ◌∙◌}
 use Rattle.instruction_set.specs.declared.letter.Letter.{Letter}
 use Rattle.log_lines.specs.Line.{Line}
-use Rattle.lineage_log.specs.declared.reason.Reason.{Reason}
 use Rattle.lineage_log.specs.declared.stage.Stage.{Stage}
 use Rattle.lineage_log.specs.declared.stage.Stage.TheVariants.{Quiet}
 use Rattle.lineage_log.specs.Order.{LogPlace, Within, told, told_all, and_on}
@@ -70,20 +69,14 @@ Passes start stage births scene lines later more next =
     Tells (Within (mirror start stage births scene)) (seen_in scene.cells scene.everyone) lines
     (Within (mirror start later more next)) (seen_in next.cells next.everyone)
 
--- where one way on from an answer leads to q, another gives k if it does from each such place
-and_then : (r : Result LogPlace Reason) (f g : LogPlace → Result LogPlace Reason) (q : LogPlace)
-    (k : Result LogPlace Reason) → ((p : LogPlace) → f p ≡ Ok q → g p ≡ k) → and_on r f ≡ Ok q
-    → and_on r g ≡ k
-and_then (Ok p) f g q k h e = h p e
-and_then (Err reason) f g q k h e = absurd cc
-
 -- once lines lead to a place, they and others are told as the others from there
 told_more : (p : LogPlace) (xs ys : List Line) (q : LogPlace) → told_all p xs ≡ Ok q
     → told_all p (xs ++ ys) ≡ told_all q ys
 told_more p [] ys q e = let same : p ≡ q = cc in rw same refl
 told_more p (x ∷ xs) ys q e =
-    and_then (told p x) (λ next. told_all next xs) (λ next. told_all next (xs ++ ys)) q
-    (told_all q ys) (λ next h. told_more next xs ys q h) e
+    elim (told p x) as (λ r. and_on r (λ next. told_all next xs) ≡ Ok q
+    → and_on r (λ next. told_all next (xs ++ ys)) ≡ told_all q ys)
+    [ Ok next ↦ λ h. told_more next xs ys q h | Err reason ↦ λ h. absurd cc ] e
 
 -- a replay of lines and then others is one of the others after the first
 seen_more : (s : Seen) (xs ys : List Line) → seen_all s (xs ++ ys) ≡ seen_all (seen_all s xs) ys

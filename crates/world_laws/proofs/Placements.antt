@@ -1,5 +1,5 @@
 -- Newborns are placed in cells of the torus, one placing each.
-use Rattle.std.proofs.Common.{ℕ, zero, suc, ◌+◌, ◌*◌, ◌/◌, ◌<◌, ◌≤◌, Bool, true, false, cond, List, [], ◌∷◌, ◌++◌, length, Option, arith}
+use Rattle.std.proofs.Common.{ℕ, zero, suc, ◌+◌, ◌*◌, ◌/◌, ◌<◌, ◌≤◌, Bool, true, false, cond, List, [], ◌∷◌, ◌++◌, Option, arith}
 use Rattle.std.specs.Prelude.{◌==◌, count_by, slice_index_or, filter, fold, ◌%◌}
 use Rattle.std.specs.List.{AllByRecursion}
 use Rattle.std.proofs.Math.Nat.{mul-le-mul_left, div-lt_iff_lt-mul}
@@ -114,23 +114,16 @@ chosen_in torus prefer occupants parent word h =
 abbrev pub PlacedIn : TorusNumbers → Placing → Type 0
 PlacedIn torus placing = IsCell torus placing.cell
 
--- a newborn whose parent is in the torus is placed in it
-placing_in : (torus : TorusNumbers) (round : PlacingRound) (board : Board) (parent : ℕ)
-    → IsCell torus parent → PlacedIn torus (next_placing torus round board parent)
-unfolding placing_of
-placing_in torus round board parent h =
-    chosen_in torus round.prefer_empty board.occupants parent _ h
-
 -- the placings of a board once the newborns of these parents are placed
 placed_in : (torus : TorusNumbers) (round : PlacingRound) (board : Board) (parents : List ℕ)
     → AllByRecursion (IsCell torus) parents → AllByRecursion (PlacedIn torus) board.placings
     → AllByRecursion (PlacedIn torus) (fold (next_board torus round) board parents).placings
-unfolding next_board
+unfolding next_board placing_of
 placed_in torus round board [] cells before = before
 placed_in torus round board (parent ∷ parents) cells before =
     placed_in torus round (next_board torus round board parent) parents cells.1
     (all_append (PlacedIn torus) board.placings (next_placing torus round board parent ∷ []) before
-    (placing_in torus round board parent cells.0, tt))
+    (chosen_in torus round.prefer_empty board.occupants parent _ cells.0, tt))
 
 -- all newborns whose parents are in the torus are placed in it
 pub placements_in : (torus : TorusNumbers) (parents : List ℕ) (occupants : List (Option ℕ))
@@ -145,28 +138,19 @@ placements_in torus parents occupants round cells =
 abbrev pub IsEquipped : Placing → Type 0
 IsEquipped placing = HasTopBytes placing.inputs
 
--- the inputs of each placing have the top bytes
-placing_equipped : (torus : TorusNumbers) (prefer : Bool) (occupants : List (Option ℕ))
-    (id parent : ℕ) (words : List ℕ)
-    → IsEquipped (placing_of torus prefer occupants id parent words)
-unfolding placing_of
-placing_equipped torus prefer occupants id parent words =
-    inputs_of-top (slice_index_or words 1 0 ∷ slice_index_or words 2 0 ∷ slice_index_or words 3 0 ∷ [])
-
 -- where those of all of a board's placings do, so do they once more newborns are placed
 placed_equipped : (torus : TorusNumbers) (round : PlacingRound) (board : Board) (parents : List ℕ)
     → AllByRecursion IsEquipped board.placings
     → AllByRecursion IsEquipped (fold (next_board torus round) board parents).placings
-unfolding next_board
+unfolding next_board placing_of
 placed_equipped torus round board [] before = before
 placed_equipped torus round board (parent ∷ parents) before =
+    let words = placing_words round parent (count_by (λ cell. cell == parent) board.parents) in
+    let top = inputs_of-top
+    (slice_index_or words 1 0 ∷ slice_index_or words 2 0 ∷ slice_index_or words 3 0 ∷ []) in
     placed_equipped torus round (next_board torus round board parent) parents
-    (all_append IsEquipped board.placings (next_placing torus round board parent ∷ []) before (
-      placing_equipped torus round.prefer_empty board.occupants
-          (round.next_id + length board.parents) parent
-          (placing_words round parent (count_by (λ cell. cell == parent) board.parents)),
-      tt,
-    ))
+    (all_append IsEquipped board.placings (next_placing torus round board parent ∷ []) before
+    (top, tt))
 
 -- the inputs of all newborns that are placed have the top bytes
 pub placements_equipped : (torus : TorusNumbers) (parents : List ℕ) (occupants : List (Option ℕ))

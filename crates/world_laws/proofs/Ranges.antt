@@ -145,12 +145,8 @@ module _ (laws : LifeLaws) (config : ConfigValues) (fit : IsConfig config) where
       let w = world_after config n in
       let is = (run_after laws config fit n).world in
       record {
-        given = λ cell o h.
-            omega (
-              arith,
-              id_below (map written w.everyone) w.cells cell o is.kept h,
-              length-map w.everyone written,
-            );
+        given = λ cell o h. let low = id_below (map written w.everyone) w.cells cell o is.kept h in
+            omega (arith, low, length-map w.everyone written);
         apart = is.apart;
       }
 
@@ -228,11 +224,8 @@ module _ (laws : LifeLaws) (keep : KeepLimits) (config : ConfigValues) (fit : Is
       -- no cell gets more than 65536000 steps
       steps_few : (cell : ℕ) → slice_at config w.cells cell ≤ 65536000
       steps_few cell =
-          omega (
-            arith,
-            entry_few (slices_at config w.cells) cell,
-            all_steps laws config fit w stand.sound stand.cells,
-          )
+          let all = all_steps laws config fit w stand.sound stand.cells in
+          omega (arith, entry_few (slices_at config w.cells) cell, all)
 
       -- once the dead have left
       range_buried : Each (IsInRange config (ages + 65536000))
@@ -337,11 +330,8 @@ module _ (laws : LifeLaws) (config : ConfigValues) (fit : IsConfig config) where
   unfolding world_after first_world
   some_ids zero = omega arith
   some_ids (suc n) =
-      omega (
-        arith,
-        some_ids n,
-        all_grown laws config fit (world_after config n) (run_after laws config fit n).sound,
-      )
+      let sound = (run_after laws config fit n).sound in
+      omega (arith, some_ids n, all_grown laws config fit (world_after config n) sound)
 
   -- the ids of a run
   pub ids_after : (n : ℕ) → HasFewIds config n (world_after config n)

@@ -135,18 +135,12 @@ updates_are : (config : ConfigValues) (n : ℕ)
 unfolding update_text
 updates_are config zero = refl
 updates_are config (suc n) =
-    rw (
-      flat_map-append line_text (updates_lines config n) (update_lines config (world_after config n)),
-      updates_are config n,
-    ) refl
+    rw (flat_map-append, updates_are config n) refl
 
 -- the text of a run's lines is its log
 pub text_is : (config : ConfigValues) (n : ℕ) → lines_text (run_lines config n) ≡ log_text config n
 unfolding log_text head_text end_text
 text_is config n =
-    rw (
-      flat_map-append line_text (updates_lines config n) (End n ∷ []),
-      updates_are config n,
-      append-nil (line_text (End n)),
-      append_assoc (line_text (head_line config)),
-    ) refl
+    let all = flat_map-append line_text (updates_lines config n) (End n ∷ []) in
+    let last = append-nil (line_text (End n)) in
+    rw (all, updates_are config n, last, append_assoc (line_text (head_line config))) refl

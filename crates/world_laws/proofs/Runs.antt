@@ -141,13 +141,8 @@ module _ (laws : LifeLaws) (config : ConfigValues) (fit : IsConfig config) (n : 
       let test = λ (cell : ℕ). (slice_index_or lives cell no_life).died in
       let run = life_at config (w.update + 1) w.cells in
       let number = length-map-range_with_len run 0 (length w.cells) in
-      omega (
-        arith,
-        filter_few test (range_with_len 0 (length lives)),
-        length-range_with_len 0 (length lives),
-        number,
-        is.world.sized,
-      )
+      let fewer = filter_few test (range_with_len 0 (length lives)) in
+      omega (arith, fewer, length-range_with_len 0 (length lives), number, is.world.sized)
 
   -- how an update goes
   pub update_goes : Goes ended last (length (births_of (lives_after config w)) + 1000)

@@ -122,25 +122,15 @@ pub people_number : (start : People) (everyone : List Link) → length start ≤
     → length (people_in start everyone) ≡ length everyone
 people_number start everyone h =
     let tail = drop (length start) everyone in
-    omega (
-      arith,
-      h,
-      length-append start (map written tail),
-      length-map tail written,
-      length-drop (length start) everyone,
-    )
+    let all = length-append start (map written tail) in
+    omega (arith, h, all, length-map tail written, length-drop (length start) everyone)
 
 -- the genomes with somebody new
 pub people_grown : (start : People) (everyone : List Link) (link : Link)
     → length start ≤ length everyone
     → people_in start (everyone ++ link ∷ []) ≡ people_in start everyone ++ Some link.genome ∷ []
 people_grown start everyone link h =
-    let tail = drop (length start) everyone in
-    rw (
-      drop-append-le (length start) everyone (link ∷ []) h,
-      map-append written tail (link ∷ []),
-      append_assoc start (map written tail) (Some link.genome ∷ []),
-    ) refl
+    rw (drop-append-le (length start) everyone (link ∷ []) h, map-append, append_assoc) refl
 
 -- who has gone with one more
 pub gone_more : (gone : List ℕ) (slot : Option ℕ) (place id : ℕ)
@@ -154,11 +144,9 @@ module _ (size : ℕ) (start : People) (scene : Scene) (is : IsScene size start 
   -- ids in cells are below the next id
   pub id_small : (cell : ℕ) (o : Occupant) → Stands scene.cells cell o
       → o.id < length scene.everyone
-  id_small cell o h = omega (
-    arith,
-    id_below (map written scene.everyone) scene.cells cell o is.kept h,
-    length-map scene.everyone written,
-  )
+  id_small cell o h =
+      let low = id_below (map written scene.everyone) scene.cells cell o is.kept h in
+      omega (arith, low, length-map scene.everyone written)
 
   -- the ids of those who have gone, and of who stands in a cell, are below the next id
   below_more : (cell : ℕ) → Below (scene.gone ++ option_to_list (standing_at scene cell))

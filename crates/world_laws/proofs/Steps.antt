@@ -65,11 +65,9 @@ mirror_newcomer : (start : People) (before stage : Stage) (births more : ℕ) (s
     ≡ mirror start stage more (with_newcomer scene link organism)
 unfolding with_newcomer
 mirror_newcomer start before stage births more scene link organism grown is =
-    let new : Option Occupant = Some (record { id = link.id; organism = organism }) in
     let number : length (people_in start scene.everyone) ≡ link.id =
     people_number start scene.everyone grown ∙ sym is in
-    rw (people_grown start scene.everyone link grown, map-set id_of scene.cells link.cell new, number)
-    refl
+    rw (people_grown start scene.everyone link grown, map-set, number) refl
 
 -- what a replay sees of a scene with a death
 seen_death : (scene : Scene) (cell : ℕ)
@@ -87,13 +85,7 @@ seen_newcomer : (scene : Scene) (link : Link) (organism : OrganismState) (cells 
     ≡ seen_in (with_newcomer scene link organism).cells (with_newcomer scene link organism).everyone
 unfolding with_newcomer
 seen_newcomer scene link organism cells genomes e f =
-    let new : Option Occupant = Some (record { id = link.id; organism = organism }) in
-    rw (
-      e,
-      f,
-      map-set id_of scene.cells link.cell new,
-      map-append (λ (l : Link). l.genome) scene.everyone (link ∷ []),
-    ) refl
+    rw (e, f, map-set, map-append) refl
 
 -- the line of a death of age
 pub one_death : (start : People) (stage : Stage) (births : ℕ) (scene : Scene) (cell id : ℕ)

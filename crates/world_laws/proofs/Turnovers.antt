@@ -47,11 +47,9 @@ been_more cells first few many id more (inr came) = inr (came.0, omega (arith, m
 -- who is in a list is found there
 in_list : (ids : List ℕ) (id : ℕ) → list_any (nat_eq id) ids ≡ true → HasGone ids id
 in_list ids id h =
-    let any = Any-from_list_any (nat_eq id) ids h in (
-      any.0,
-      slice_get-get_or ids any.0 any.1 any.2
-          ∙ ap (λ (n : ℕ). Some n) (any.3 ∙ sym (eqb-true id any.1 any.4)),
-    )
+    let any = Any-from_list_any (nat_eq id) ids h in
+    let there = slice_get-get_or ids any.0 any.1 any.2 in
+    (any.0, there ∙ ap (λ (n : ℕ). Some n) (any.3 ∙ sym (eqb-true id any.1 any.4)))
 
 -- one more that was not there
 once_more : (gone : List ℕ) (slot : Option ℕ) → IsDistinct nat_eq gone
@@ -126,12 +124,9 @@ module _ (cells : List (Option Occupant)) (before : List Link) (size : ℕ) (sta
       record {
         grown = t.grown;
         follows = t.follows;
-        standing = λ id stands. t.standing id (
-          stands.0,
-          stands.1,
-          (get_emptied scene.cells stands.0 at stands.1 stands.2).0,
-          stands.3,
-        );
+        standing = λ id stands.
+            let stood = (get_emptied scene.cells stands.0 at stands.1 stands.2).0 in
+            t.standing id (stands.0, stands.1, stood, stands.3);
         gone = λ id there. elim (gone_from scene.gone (standing_at scene at) id there) [
           | inl before ↦ t.gone id before
           | inr last ↦ t.standing id (went_stood scene at id last)
@@ -177,11 +172,8 @@ module _ (cells : List (Option Occupant)) (before : List Link) (size : ℕ) (sta
       ] in
       record {
         grown = omega (arith, t.grown, more);
-        follows = rw (
-          drop-append-le first scene.everyone (link ∷ []) t.grown,
-          ← append_assoc before (drop first scene.everyone) (link ∷ []),
-          t.follows,
-        ) refl;
+        follows = let same = append_assoc before (drop first scene.everyone) (link ∷ []) in
+            rw (drop-append-le first scene.everyone (link ∷ []) t.grown, ← same, t.follows) refl;
         standing = λ id stands.
             elim (stands_with scene.cells stands.0 at new stands.1 stands.2) [
               | inl here ↦
@@ -197,12 +189,9 @@ module _ (cells : List (Option Occupant)) (before : List Link) (size : ℕ) (sta
           | inl stood ↦ older id (inl stood)
           | inr came ↦ elim (cases_lt id (length scene.everyone)) [
             | inl low ↦ older id (inr (came.0, low))
-            | inr high ↦ inl (
-              at,
-              new,
-              get_written scene.cells at (Some new) (omega (arith, within, is.sized)),
-              omega (arith, next, high, came.1, more),
-            )
+            | inr high ↦
+                let here = get_written scene.cells at (Some new) (omega (arith, within, is.sized)) in
+                inl (at, new, here, omega (arith, next, high, came.1, more))
           ]
         ];
         once = once_on scene at is t.once;

@@ -237,15 +237,6 @@ pub scene_events : (size : ℕ) (start : People) (config : ConfigValues) (scene 
 scene_events size start config =
     fold-keeps (after_event config) (IsScene size start) (scene_event size start config)
 
--- after the lines of an event that is given with its place events may come
-event_passes : (size : ℕ) (start : People) (stage : Stage) (births : ℕ) (config : ConfigValues)
-    (scene : Scene) (event : ℕ × EventValue) → IsScene size start scene → IsEvent size event
-    → ToEvents start stage births scene (lines_of_event scene event)
-    (after_event config scene event)
-unfolding after_event
-event_passes size start stage births config scene event is within =
-    what_passes size start stage births config scene event.0 event.1.what is within
-
 -- the events
 pub all_events : (size : ℕ) (start : People) (stage : Stage) (births : ℕ) (config : ConfigValues)
     (scene : Scene) (events : List (ℕ × EventValue)) → IsScene size start scene
@@ -253,11 +244,13 @@ pub all_events : (size : ℕ) (start : People) (stage : Stage) (births : ℕ) (c
     → ToEvents start stage births scene
     (flat_map (λ lines. lines) (scan (after_event config) lines_of_event scene events))
     (fold (after_event config) scene events)
+unfolding after_event
 all_events size start stage births config scene [] is within =
     record { later = stage; passes = no_lines _ _ }
 all_events size start stage births config scene (event ∷ events) is within =
     let next = after_event config scene event in
-    let first = event_passes size start stage births config scene event is within.0 in
+    let first =
+    what_passes size start stage births config scene event.0 event.1.what is within.0 in
     let rest = all_events size start first.later births config next events
     (scene_event size start config scene event is) within.1 in
     record {

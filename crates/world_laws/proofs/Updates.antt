@@ -67,14 +67,9 @@ agree_in start everyone id letters agree grown h = elim (cases_lt id (length sta
       (sym (get_left start (map written (drop (length start) everyone)) id low) ∙ h)
   | inr high ↦
       let n = length start in
-      let tail = map written (drop n everyone) in
       let at : n + (id - n) ≡ id = omega (arith, high) in
       let wrote : option_map written (slice_get everyone id) ≡ Some (Some letters) =
-      rw at at (rw (
-        get_right start tail (id - n),
-        slice_get-map written (drop n everyone) (id - n),
-        get_dropped n everyone (id - n),
-      ) at (rw (← at) at h)) in
+      rw at at (rw (get_right, slice_get-map, get_dropped) at (rw (← at) at h)) in
       let found = written_there (slice_get everyone id) letters wrote in
       rw (slice_get-map (λ (l : Link). l.genome) everyone id, found.1, found.2) refl
 ]
@@ -105,12 +100,8 @@ one_count : (start : People) (stage : Stage) (births : ℕ) (scene : Scene)
     ≡ Ok (Within (at_next_update (mirror start stage births scene)))
 unfolding told_count stats_in
 one_count start stage births scene =
-    rw (
-      eqb_same scene.update,
-      eqb_same (taken (ids_of scene.cells)),
-      eqb_same births,
-      eqb_same (length scene.gone),
-    ) refl
+    let living = eqb_same (taken (ids_of scene.cells)) in
+    rw (eqb_same scene.update, living, eqb_same births, eqb_same (length scene.gone)) refl
 
 -- the reader when the next update is due is that between two updates
 renewed_is : (start : People) (stage : Stage) (births : ℕ) (scene : Scene)

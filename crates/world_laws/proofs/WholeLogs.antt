@@ -12,7 +12,7 @@ use Rattle.lineage_log.specs.Replay.{Seen, seen_on, residents_from, replay_of}
 use Rattle.lineage_log.specs.Links.{Link}
 use Rattle.organism.specs.OrganismState.{new_organism}
 use Rattle.world_config.specs.Values.{ConfigValues}
-use Rattle.world_rules.specs.World.{Occupant, id_of, ids_of, founder_of, founder_link, empty_cells, first_occupant, first_world}
+use Rattle.world_rules.specs.World.{Occupant, ids_of, founder_of, founder_link, empty_cells, first_occupant, first_world}
 use Rattle.world_rules.specs.Update.{next_scene}
 use Rattle.world_rules.specs.WorldRun.{world_after, resident_of, residents_of_world}
 use Rattle.world_rules.specs.LogText.{update_lines, head_line}
@@ -144,10 +144,7 @@ module _ (laws : LifeLaws) (config : ConfigValues) (fit : IsConfig config) where
       (slice_set (empty_cells config) config.founder_cell (Some (first_occupant config)))
       ≡ slice_set (replicate (size_of config) None) config.founder_cell (Some 0)
   ids_first =
-      rw (
-        map-set id_of (empty_cells config) config.founder_cell (Some (first_occupant config)),
-        map-replicate id_of (size_of config) None,
-      ) refl
+      rw (map-set, map-replicate) refl
 
   -- the first line leads to the reader of the founder's world
   head_told : told_start 2 config.width config.height config.founder_cell config.ancestor

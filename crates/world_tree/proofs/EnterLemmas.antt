@@ -15,7 +15,7 @@ use Rattle.world_rules.specs.Update.{next_world, world_of}
 use Rattle.world_rules.specs.WorldRun.{world_after}
 use Rattle.world_rules.specs.World.{World}
 use Rattle.world_laws.specs.Turnover.{HasBeen, IsStanding, IsTurnover}
-use Rattle.world_tree.specs.Growing.{HasBuried, HasEntered}
+use Rattle.world_tree.specs.Growing.{HasBuried}
 use Rattle.world_laws.proofs.ListLemmas.{get_left}
 use Rattle.world_tree.specs.WorldTrees.{scene_after}
 use Rattle.world_tree.proofs.NumberLemmas.{link_at, numbered_front, older_of, standing_low}
