@@ -1,13 +1,13 @@
 -- Lawful events have the calls that the seats have still to make, in any order of the seats.
-use Rattle.std.proofs.Common.{◌≡◌, ◌≢◌, ℕ, List, [], ◌∷◌, ◌++◌, map, refl, sym, ◌∙◌, append_assoc, append-nil, inl, inr}
+use Rattle.std.proofs.Common.{◌≡◌, ◌≢◌, ℕ, List, [], ◌∷◌, ◌++◌, map, refl, sym, ◌∙◌, append_assoc, append-nil, inl, inr, ap, arith, length}
 use Rattle.std.specs.Prelude.{◌==◌, filter}
 use Rattle.std.proofs.lemmas.Bool.{eq-eqb, ne_eqb}
+use Rattle.std.proofs.lemmas.List.{length-map}
 use Rattle.genotype_bank.specs.declared.view.Entry.{Entry}
 use Rattle.world_config.specs.Values.{ConfigValues}
 use Rattle.event_orders.specs.declared.schedule.ScheduleEvent.TheVariants.{Intern}
 use Rattle.event_orders.specs.State.{State, genome_entry}
 use Rattle.event_orders.specs.Schedule.{with_value_at, MayGather, state_after_event}
-use Rattle.event_orders.proofs.Members.{Contains-nil}
 use Rattle.event_orders.proofs.Going.{at_either, Any, Goes, goes_one, goes_on, goes_none}
 use Rattle.event_orders.proofs.Pairs.{Pair}
 use Rattle.event_orders.proofs.LeftPairs.{Left, head_in, left_next, newborn}
@@ -20,23 +20,11 @@ own j calls = filter (λ call. call.seat == j) calls
 abbrev pub due : State → (ℕ → List Pair) → ℕ → List Entry
 due s rest j = map (λ p. genome_entry j (newborn s p)) (rest j)
 
--- only the empty list is made into the empty one
-nil_from_map : {A B : Type 0} (f : A → B) (xs : List A) → [] ≡ map f xs → xs ≡ []
-nil_from_map f [] e = refl
-nil_from_map f (x ∷ xs) e = absurd (cc)
-
 module _ (config : ConfigValues) where
   -- lawful events lead to this history, where the update may end
   abbrev pub Explained : State → List Entry → Type 0
   Explained s calls =
       (t : State) × Goes config Any s 0 t × (t.history ≡ s.history ++ calls) × MayGather t
-
-  -- the history with a further call, before the others
-  history_next : (s t : State) (made x : Entry) (calls : List Entry)
-      → t.history ≡ (s.history ++ made ∷ []) ++ calls → x ≡ made
-      → t.history ≡ s.history ++ x ∷ calls
-  history_next s t made x calls is same =
-      rw (is, append_assoc s.history (made ∷ []) calls, same) refl
 
   -- if each seat makes the calls that it has still to make, in its order
   pub explained : (calls : List Entry) (s : State) (rest : ℕ → List Pair) → Left s rest
@@ -49,8 +37,9 @@ module _ (config : ConfigValues) where
       every_cell = h.ran;
       every_newborn = λ c k l n. elim (h.whole c k l n) [
         | inl e ↦ e
-        | inr r ↦ absurd (Contains-nil (c, k)
-            (rw (nil_from_map (λ p. genome_entry r.0 (newborn s p)) (rest r.0) (own_is r.0)) at r.1))
+        | inr r ↦
+            let none = length-map (rest r.0) (λ p. genome_entry r.0 (newborn s p)) in
+            absurd (omega (arith, r.1.1, none, ap length (own_is r.0)))
       ];
     },
   )
@@ -81,6 +70,7 @@ module _ (config : ConfigValues) where
             go.0,
             goes_on config Any s s1 go.0 0 0 (goes_one config Any s (Intern x.seat p.0 p.1)
                 v tt) go.1,
-            history_next s go.0 (genome_entry x.seat (newborn s p)) x calls go.2 first,
+            rw (go.2, append_assoc s.history (genome_entry x.seat (newborn s p) ∷ []) calls, first)
+            refl,
             go.3,
           )

@@ -10,7 +10,7 @@ use mathlib.Core.List.{map-map}
 use Rattle.genotype_bank.specs.declared.view.Entry.{Entry}
 use Rattle.world_config.specs.Values.{ConfigValues}
 use Rattle.event_orders.specs.declared.schedule.ScheduleEvent.{ScheduleEvent}
-use Rattle.event_orders.specs.State.{State, genome_entry, life_in, newborn_genomes, result_of, opening}
+use Rattle.event_orders.specs.State.{State, genome_entry, newborn_genomes, result_of, opening}
 use Rattle.event_orders.specs.Schedule.{MayGather, state_after_event, state_after, IsSchedule}
 use Rattle.event_orders.specs.Interleaving.{StartsUpdate, newborns_for, IsInterleaving, GoesOnWith}
 use Rattle.event_orders.proofs.Results.{AreLives}
@@ -33,11 +33,6 @@ module _ (config : ConfigValues) where
     abbrev all_due : ℕ → List Pair
     all_due j = pairs_from seat_of many j 0 (length s.world.cells)
 
-    -- the result of a cell is its life in the starting world
-    result_is : (c : ℕ) → c < length s.world.cells
-        → newborn_genomes (result_of u c) ≡ newborn_genomes (life_in config s.world c)
-    result_is c l = rw ((lived.lives c (lived.ran c l)).1, lived.world) refl
-
     left_first : Left u all_due
     left_first = record {
       ran = λ c l. lived.ran c (rw lived.world at l);
@@ -57,18 +52,13 @@ module _ (config : ConfigValues) where
           );
     }
 
-    -- the newborns of a cell, by their numbers
-    genomes_at : (c : ℕ) → map (λ k. newborn u (c, k)) (range_with_len 0 (many c)) ≡ newborn_genomes
-        (result_of u c)
-    genomes_at c =
-        sym (fill_by_all (λ k. newborn u (c, k)) (newborn_genomes (result_of u c)) (many c) [] refl
-        (λ k l. refl))
-
+    -- what is due of a cell are the newborns of its life in the starting world
     due_at : (j c : ℕ) → c < length s.world.cells
         → map (newborn u) (pairs_at seat_of many j c) ≡ newborns_for config s.world seat_of j c
     due_at j c l = elim (cases_Bool (seat_of c == j)) [
-      | inl is ↦ rw is
-          (map-map (newborn u) (λ k. (c, k)) (range_with_len 0 (many c)) ∙ genomes_at c ∙ result_is c l)
+      | inl is ↦ rw is (map-map (newborn u) (λ k. (c, k)) (range_with_len 0 (many c))
+          ∙ sym (fill_by_all (λ k. newborn u (c, k)) (newborn_genomes (result_of u c)) (many c) []
+          refl (λ k l. refl)) ∙ rw ((lived.lives c (lived.ran c l)).1, lived.world) refl)
       | inr other ↦ rw other refl
     ]
 

@@ -1,11 +1,12 @@
 -- Members of lists that are made of others.
-use Rattle.std.proofs.Common.{◌≡◌, ◌++◌, Some, ◌⊎◌, ℕ, zero, suc, ◌<◌, List, [], ◌∷◌, length, map, Contains, refl, sym, ap, ◌∙◌, inl, inr, arith, length-append}
-use Rattle.std.specs.Prelude.{◌-◌, slice_get}
+use Rattle.std.proofs.Common.{◌≡◌, ◌++◌, Some, ℕ, ◌<◌, List, [], ◌∷◌, length, map, Contains, refl, sym, ◌∙◌, inl, inr, arith, length-append}
+use Rattle.std.specs.Prelude.{◌-◌}
 use Rattle.std.specs.List.{flat_map, range_with_len}
 use Rattle.std.proofs.lemmas.List.Elements.{Contains-append_left, Contains-append_right, Contains-append_cases}
 use Rattle.std.proofs.lemmas.List.FromFn.{length-map-range_with_len, get_or-map-range_with_len}
 use Rattle.std.proofs.lemmas.Option.{slice_get_within}
 pub use Rattle.genotype_bank.proofs.MemberLemmas.{Contains-nil, Contains-cons_cases, Contains-cons, Contains-here}
+use Rattle.lineage_log.proofs.StandingLemmas.{get_pushed}
 use Rattle.published_world.specs.PublicationHistory.{last_of}
 
 module _ {X A : Type 0} (f : X → List A) where
@@ -44,20 +45,11 @@ module _ {X : Type 0} (f : ℕ → X) (n : ℕ) where
       let l : h.0 < n = omega (arith, h.1, length-map-range_with_len f 0 n) in
       (h.0, l, sym (get_or-map-range_with_len f 0 n h.0 h.0 x l (omega arith)) ∙ h.2)
 
--- what stands in a list with one item more
-pub get_last : {X : Type 0} (xs : List X) (x : X) (i : ℕ) (y : X)
-    → slice_get (xs ++ x ∷ []) i ≡ Some y → (slice_get xs i ≡ Some y) ⊎ ((length xs ≡ i) × (x ≡ y))
-get_last [] x zero y h = inr (refl, cc)
-get_last [] x (suc i) y h = absurd cc
-get_last (z ∷ xs) x zero y h = inl h
-get_last (z ∷ xs) x (suc i) y h = elim (get_last xs x i y h)
-    [ inl before ↦ inl before | inr last ↦ inr (ap suc last.0, last.1) ]
-
 -- the last item of a list with one item more
 pub last_pushed : {X : Type 0} (xs : List X) (x y : X) → last_of (xs ++ x ∷ []) ≡ Some y → x ≡ y
 last_pushed xs x y h =
     let end = length (xs ++ x ∷ []) - 1 in
-    elim (get_last xs x end y h) [
+    elim (get_pushed xs x y end h) [
       | inl before ↦
           absurd (omega (arith, slice_get_within xs end y before, length-append xs (x ∷ [])))
       | inr last ↦ last.1

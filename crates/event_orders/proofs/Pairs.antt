@@ -1,8 +1,8 @@
 -- Lists of pairs of a cell and the number of a newborn, of which each stands once.
-use Rattle.std.proofs.Common.{◌≡◌, ◌⊎◌, ℕ, zero, suc, ◌+◌, ◌<◌, ◌≤◌, List, [], ◌∷◌, ◌++◌, map, Contains, refl, inl, inr, arith}
+use Rattle.std.proofs.Common.{◌≡◌, ℕ, zero, suc, ◌+◌, ◌<◌, ◌≤◌, List, [], ◌∷◌, ◌++◌, map, Contains, refl, inl, inr, arith}
 use Rattle.std.specs.Prelude.{if◌then◌else◌, ◌==◌}
 use Rattle.std.specs.List.{flat_map, range_with_len}
-use Rattle.std.proofs.lemmas.Bool.{cases_lt, cases_Bool, eq-eqb}
+use Rattle.std.proofs.lemmas.Bool.{cases_eq, cases_Bool, eq-eqb}
 use Rattle.std.proofs.lemmas.Bool.Decides.{eqb_tells}
 use Rattle.std.proofs.lemmas.List.Elements.{Contains-append_left, Contains-append_right, Contains-append_cases}
 use Rattle.event_orders.proofs.Members.{Contains-nil, Contains-cons, Contains-cons_cases, Contains-here, Contains-from_fn}
@@ -25,11 +25,6 @@ apart_append (p ∷ ps) qs first rest common = (
       [ inl l ↦ first.0 l | inr r ↦ common p (Contains-here p ps p refl) r ]),
   apart_append ps qs first.1 rest (λ q l r. common q (Contains-cons p ps q l) r),
 )
-
--- a number that is not below another is above it or the same
-apart_or_same : (low high : ℕ) → low ≤ high → (low + 1 ≤ high) ⊎ (low ≡ high)
-apart_or_same low high h = elim (cases_lt low high)
-    [ inl above ↦ inl (omega (arith, above)) | inr not ↦ inr (omega (arith, h, not)) ]
 
 -- the pairs of a cell, from a number on
 abbrev from_nth : ℕ → ℕ → ℕ → List Pair
@@ -75,16 +70,6 @@ module _ (seat_of : ℕ → ℕ) (many : ℕ → ℕ) (seat : ℕ) where
     | inr other ↦ absurd (Contains-nil p (rw other.0 at h))
   ]
 
-  -- each newborn of a cell of the seat is there
-  pairs_at_has : (c k : ℕ) → seat_of c ≡ seat → k < many c → Contains (pairs_at c) (c, k)
-  pairs_at_has c k is low =
-      rw (eq-eqb (seat_of c) seat is) (Contains-from_fn (λ k. (c, k)) (many c) k low)
-
-  -- each stands once
-  pairs_at_apart : (c : ℕ) → Apart (pairs_at c)
-  pairs_at_apart c = elim (cases_Bool (seat_of c == seat))
-      [ inl is ↦ rw is (from_nth_apart c 0 (many c)) | inr other ↦ rw other tt ]
-
   -- a pair of these is of one of the cells, which is the seat's
   pub in_pairs : (first n : ℕ) (p : Pair) → Contains (pairs_from first n) p → (first ≤ p.0)
       × (p.0 < first + n) × (p.1 < many p.0) × (seat_of p.0 ≡ seat)
@@ -103,17 +88,19 @@ module _ (seat_of : ℕ → ℕ) (many : ℕ → ℕ) (seat : ℕ) where
   pub pairs_have : (first n c k : ℕ) → first ≤ c → c < first + n → seat_of c ≡ seat → k < many c
       → Contains (pairs_from first n) (c, k)
   pairs_have first zero c k low high is within = absurd (omega (arith, low, high))
-  pairs_have first (suc n) c k low high is within = elim (apart_or_same first c low) [
-    | inl above ↦ Contains-append_right (pairs_at first) (pairs_from (first + 1) n) (c, k)
-        (pairs_have (first + 1) n c k above (omega (arith, high)) is within)
-    | inr same ↦ Contains-append_left (pairs_at first) (pairs_from (first + 1) n) (c, k)
-        (rw same (pairs_at_has c k is within))
+  pairs_have first (suc n) c k low high is within = elim (cases_eq first c) [
+    | inl same ↦ Contains-append_left (pairs_at first) (pairs_from (first + 1) n) (c, k)
+        (rw (same, eq-eqb (seat_of c) seat is) (Contains-from_fn (λ k. (c, k)) (many c) k within))
+    | inr other ↦ Contains-append_right (pairs_at first) (pairs_from (first + 1) n) (c, k)
+        (pairs_have (first + 1) n c k (omega (arith, low, other)) (omega (arith, high)) is within)
   ]
 
   -- each stands once
   pub pairs_apart : (first n : ℕ) → Apart (pairs_from first n)
   pairs_apart first zero = tt
   pairs_apart first (suc n) =
-      apart_append (pairs_at first) (pairs_from (first + 1) n) (pairs_at_apart first)
+      let here : Apart (pairs_at first) = elim (cases_Bool (seat_of first == seat))
+      [ inl is ↦ rw is (from_nth_apart first 0 (many first)) | inr other ↦ rw other tt ] in
+      apart_append (pairs_at first) (pairs_from (first + 1) n) here
       (pairs_apart (first + 1) n)
       (λ p l r. absurd (omega (arith, (in_pairs_at first p l).0, (in_pairs (first + 1) n p r).0)))

@@ -6,8 +6,8 @@ use Rattle.world_rules.specs.Picture.{PictureValue, picture_of}
 use Rattle.event_orders.specs.State.{State}
 use Rattle.event_orders.specs.Schedule.{IsLawful}
 use Rattle.event_orders.specs.Orders.{ShowsEachUpdate}
-use Rattle.event_orders.proofs.Members.{get_last}
 use Rattle.event_orders.specs.declared.schedule.ScheduleEvent.TheVariants.{Publish}
+use Rattle.lineage_log.proofs.StandingLemmas.{get_pushed}
 
 -- what holds of the pictures
 pub record AreShown (config : ConfigValues) (pictures : List PictureValue) : Type 0 where
@@ -33,9 +33,9 @@ module _ (config : ConfigValues) where
       → AreShown config pictures → AreShown config (pictures ++ picture_of config update ∷ [])
   publish_shown pictures update is h = record {
     some = omega (arith, length-append pictures (picture_of config update ∷ []));
-    each = λ u p at. elim (get_last pictures (picture_of config update) u p at) [
+    each = λ u p at. elim (get_pushed pictures (picture_of config update) p u at) [
       | inl before ↦ h.each u p before
-      | inr last ↦ sym last.1 ∙ ap (picture_of config) (is ∙ last.0)
+      | inr last ↦ sym last.1 ∙ ap (picture_of config) (is ∙ sym last.0)
     ];
   }
 
