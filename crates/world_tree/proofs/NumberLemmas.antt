@@ -44,14 +44,13 @@ link_at links place link are there =
     let some : is_some (link_of links link.id) ≡ true =
     rw (get_or_from_slice_get links place link link there)
     at (found_at links place link (slice_get_within links place link there)) in
-    let found : (l : Link) × (link_of links link.id ≡ Some l) =
     elim (cases_Option (link_of links link.id)) [
       | inl none ↦ absurd (let no = rw none at some in cc)
-      | inr found ↦ found
-    ] in
-    let where_is = found_link links link.id found.0 found.1 in
-    let same : where_is.0 ≡ place = sym (are where_is.0 found.0 where_is.1).id ∙ where_is.2 ∙ id in
-    ap (link_of links) (sym id) ∙ found.1 ∙ sym where_is.1 ∙ ap (slice_get links) same ∙ there
+      | inr found ↦
+          let at = found_link links link.id found.0 found.1 in
+          let same : at.0 ≡ place = sym (are at.0 found.0 at.1).id ∙ at.2 ∙ id in
+          ap (link_of links) (sym id) ∙ found.1 ∙ sym at.1 ∙ ap (slice_get links) same ∙ there
+    ]
 
 -- parents are older
 pub older_of : (links : List Link) → AreNumbered links → AreOlder links
