@@ -24,20 +24,23 @@ AddsUp state first second =
     saved_state_after (saved_state_after state first) second
     ≡ saved_state_after state (first + second)
 
--- `resume` of some updates, less its last line, then of more once advanced, writes that of all
+-- what `resume` writes of some updates without its last line, and then what it writes of some more
+-- once the world is advanced, is what it writes of all of them
 pub record ResumesInTwo (state : SavedState) (first second : ℕ) : Type 0 where
   pub log : List ℕ
   pub is_log : log ++ end_text (state.head.update + first) ≡ continued_text state first
   pub goes_on : log ++ continued_text (saved_state_after state first) second
       ≡ continued_text state (first + second)
 
--- `advance` reads this for all updates; what it writes of the first fits, and is not too long
+-- `advance` reads this input for all updates; what it writes of the first ones is not too long,
+-- and its next id and its ages are such as the lines of a saved world have
 pub record CanAdvanceInTwo (bytes : List ℕ) (state : SavedState) (first second : ℕ) : Type 0 where
   pub reads : resume_input_of (first + second) bytes ≡ Ok state
   pub fits : FitsText (saved_state_after state first)
   pub short : length (advanced_text state first) ≤ 536870912
 
--- `advance` by the first updates, and of what it wrote by the second, writes what all at once do
+-- `advance` by the first updates reads the input too; by the second ones it reads what the first
+-- call wrote, and writes what it writes of all updates at once
 pub record AdvancesInTwo (bytes : List ℕ) (state : SavedState) (first second : ℕ) : Type 0 where
   pub begins : resume_input_of first bytes ≡ Ok state
   pub between : SavedState

@@ -49,7 +49,8 @@ abbrev pub Reads : {A : Type 0} →
 Reads reading text_of work ended =
     OnBytes work.source (λ bytes. ReadsInput None (reading bytes) text_of work ended)
 
--- where a put failed, the watcher wrote a prefix of pictures, and the log is whole but for `out`
+-- where a put failed, a watcher of so many looks has written pictures or a prefix of their lines,
+-- and the log is whole unless a put to `out` failed
 pub record StopsWatched (looks : ℕ) (work : Work) (config : ConfigValues) : Type 0 where
   pub pictures : GainedPicturesFront looks config work.watch
   pub whole_log : ¬ SinkFailed work.out → GainedText work.out (run_text config)
@@ -117,7 +118,8 @@ pub record CarriesOut (command : Command) (work : Work) (ended : Ended) : Type 0
   pub words : ended ≢ Err error.BadWords
   pub read_fault : ended ≡ Err error.ReadFault → SourceFailed work.source
   pub write_fault : ended ≡ Err error.WriteFault → PutFailed (looks_of command) work.out work.watch
-  -- the watch stays without a watcher, and the last world but where a command leaves one when done
+  -- what stays: the watch without a watcher, and the last world but where all is done and the
+  -- command leaves one
   pub watch_stays : looks_of command ≡ None → Stays work.watch
   pub last_stays : OnErr ended (Stays work.last)
   pub no_world : leaves_world command ≡ false → Stays work.last

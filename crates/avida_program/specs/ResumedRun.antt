@@ -13,7 +13,8 @@ pub record CanResume (config : ConfigValues) (more : ℕ) : Type 0 where
   pub short : length (save_text config) ≤ 536870912
   pub updates : config.updates + more ≤ 1000000
 
--- `resume` reads what `save` writes; the log less its last line, and its lines, are the longer log
+-- `resume` reads what `save` writes of a run; the log without its last line, and then what `resume`
+-- writes, are the log of a run so much longer
 pub record ResumesExactly (config : ConfigValues) (more : ℕ) : Type 0 where
   pub log : List ℕ
   pub is_log : log ++ end_text config.updates ≡ run_text config
