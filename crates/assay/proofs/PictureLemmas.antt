@@ -1,6 +1,6 @@
 -- The dominant genome that a picture shows.
 use Rattle.std.proofs.Common.{◌≡◌, ◌∙◌, ℕ, Option, None, Some, option_map, refl, sym, ap}
-use Rattle.census.specs.Dominance.{dominant_value}
+use Rattle.census.specs.Counts.{dominant_value}
 use Rattle.census.specs.declared.dominant.Dominant.{Dominant}
 use Rattle.genome.specs.Genome.{letters}
 use Rattle.world_config.specs.Shown.{values_of}

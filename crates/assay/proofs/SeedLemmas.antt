@@ -5,9 +5,9 @@ use Rattle.avida_port.specs.declared.memory.Memory.{Memory}
 use Rattle.instruction_set.specs.declared.letter.Letter.{Letter}
 use Rattle.log_lines.specs.declared.stats.Stats.{Stats}
 use Rattle.world_config.specs.Values.{ConfigValues}
-use Rattle.world_core.specs.WorldValue.{WorldValue}
+use Rattle.world_core.specs.Scenes.{WorldValue}
 use Rattle.world_rules.specs.Statistics.{stats_of}
-use Rattle.logged_run.specs.RunSums.{IsEndOf}
+use Rattle.logged_run.specs.RunText.{IsEndOf}
 use Rattle.logged_run.specs.declared.sums.Sums.{Sums}
 use Rattle.assay.specs.Assay.{AssayValue, assay_of_seed, dominant_after, with_seed}
 

@@ -3,4 +3,3 @@ pub use Rattle.world_config.specs.Shown
 pub use Rattle.world_rules.specs.Statistics
 pub use Rattle.world_rules.specs.WorldRun
 pub mod Assay
-pub mod AssayText

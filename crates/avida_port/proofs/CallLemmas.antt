@@ -5,7 +5,7 @@ use Rattle.std.proofs.lemmas.List.FromFn.{sum_by-map-range_with_len_more}
 use Rattle.std.specs.List.{count_by, range_with_len}
 use Rattle.std.specs.Option.{option_map}
 use Rattle.std.specs.Prelude.{Option, None, Some, is_some, nat_lt, min}
-use Rattle.avida_port.specs.Faults.{last_count}
+use Rattle.avida_port.specs.Ports.{last_count}
 use Rattle.avida_port.specs.Memory.{call_fails, failed_calls, entry_for, failed_puts, first_failing}
 use Rattle.avida_port.specs.declared.mem_sink.Failing.{Failing}
 

@@ -1,8 +1,7 @@
 // Standard output and standard error, part of the trusted edge.
 ghost use Rattle.std.specs.Prelude.{◌≡◌, [], IsOk, OnOk, OnErr, IsErrOf};
 ghost use Rattle.std.specs.Io.KnownBytes.{Appends};
-ghost use Rattle.avida_port.specs.Ports.{Puts};
-ghost use Rattle.avida_port.specs.Streams.{AppendsFront};
+ghost use Rattle.avida_port.specs.Ports.{Puts, AppendsFront};
 
 use crate::retrying::{Failed, write_once};
 use crate::{Sink, SinkStop};
@@ -70,7 +69,7 @@ fn write_whole<W: Write>(to: &mut W, piece: &[u8]) -> Result<(), Failed>
 }
 
 impl Sink for StdSink {
-    ghost use Rattle.avida_port.specs.Streams.{std_sink_seen};
+    ghost use Rattle.avida_port.specs.Ports.{std_sink_seen};
 
     ghost seen = { std_sink_seen };
 

@@ -35,7 +35,7 @@ impl StdSource {
 }
 
 impl Source for StdSource {
-    ghost use Rattle.avida_port.specs.Streams.{std_source_seen};
+    ghost use Rattle.avida_port.specs.Ports.{std_source_seen};
 
     ghost seen = { std_source_seen };
 

@@ -1,7 +1,6 @@
 // A sink in memory that never fails.
 ghost use Rattle.std.specs.Prelude.{◌≡◌, [], IsOk, IsErrOf};
-ghost use Rattle.avida_port.specs.Faults.{one_more};
-ghost use Rattle.avida_port.specs.Ports.{Puts};
+ghost use Rattle.avida_port.specs.Ports.{one_more, Puts};
 
 use crate::{Sink, SinkStop};
 use std::alloc::Global;

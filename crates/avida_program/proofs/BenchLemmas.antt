@@ -1,31 +1,17 @@
 -- What `bench` counts of a run, and the configuration that it runs.
 use Rattle.std.proofs.Common.{◌≡◌, ◌+◌, ℕ, [], ◌++◌, Ok, OnErr, OnOk, refl, ap, length, length-append, arith, rules}
 use Rattle.std.specs.Prelude.{codes, decimal}
+use Rattle.avida_program.proofs.Prelude.{letter_of_byte, Count, line_text, AreEvents, ConfigValues, WorldValue, end_text, head_text, log_text, Stays, IsEndOf, run_text, bench_config, bench_text, sums_text, LeavesFinal, Work, WritesText, Ended, CarriesOut}
 use Rattle.toml.specs.Data.{no_members}
-use Rattle.instruction_set.specs.Letter.{letter_of_byte}
-use Rattle.log_lines.specs.Line.{Count}
-use Rattle.log_lines.specs.LineText.{line_text}
 use Rattle.log_lines.specs.declared.stats.Stats.{Stats}
 use Rattle.world_config.specs.Config.{config_in, values_in_table}
-use Rattle.world_config.specs.Events.{AreEvents}
 use Rattle.world_config.specs.KeyTable.{Frame}
 use Rattle.world_config.specs.Lookup.{items_at, number_at}
 use Rattle.world_config.specs.Refusal.{refusal_at}
-use Rattle.world_config.specs.Values.{ConfigValues}
-use Rattle.world_core.specs.WorldValue.{WorldValue}
-use Rattle.world_rules.specs.LogText.{end_text, head_text, log_text}
 use Rattle.world_rules.specs.Statistics.{stats_of}
-use Rattle.written_texts.specs.SinkChanges.{Stays}
-use Rattle.logged_run.specs.RunSums.{IsEndOf}
-use Rattle.logged_run.specs.RunText.{run_text}
 use Rattle.logged_run.specs.declared.sums.Sums.{Sums}
 use Rattle.command_line.specs.declared.positional.Bench.{Bench}
 use Rattle.avida_program.specs.declared.command.Command.TheVariants as command
-use Rattle.avida_program.specs.BenchText.{bench_config, bench_text, sums_text}
-use Rattle.avida_program.specs.FinalWorld.{LeavesFinal}
-use Rattle.avida_program.specs.Changes.{Work, WritesText}
-use Rattle.avida_program.specs.Status.{Ended}
-use Rattle.avida_program.specs.Commands.{CarriesOut}
 use Rattle.avida_program.proofs.ReadEnds.{carried, text_caused}
 
 -- the values that a document without keys gives are the defaults

@@ -1,3 +1,4 @@
+pub mod Prelude
 pub mod TraceLemmas
 pub mod ListTexts
 pub mod RangeLemmas

@@ -1,15 +1,9 @@
 -- The texts of a list's items, which go through a held piece one after another.
 use Rattle.std.proofs.Common.{◌≡◌, ◌<◌, ◌+◌, ℕ, List, [], ◌++◌, Result, Ok, Err, refl, add-one, append-nil, arith, take, drop, get_or, length, take-append-drop}
+use Rattle.avida_program.proofs.Prelude.{flat_map, flat_map-append, SinkStop, SinkState, Writes, WritesAll, write_stop_of, writes_short, writes_then}
 use Rattle.std.proofs.Math.Seq.{take-suc}
-use Rattle.std.specs.List.{flat_map}
-use Rattle.std.proofs.lemmas.Grind.{flat_map-append}
 use Rattle.std.proofs.lemmas.List.{take_all}
-use Rattle.avida_port.specs.declared.sink.SinkStop.{SinkStop}
-use Rattle.avida_port.specs.Ports.{SinkState}
-use Rattle.written_texts.specs.Pieces.{Writes}
-use Rattle.written_texts.specs.WrittenText.{WritesAll, write_stop_of}
 use Rattle.written_texts.specs.declared.stop.WriteStop.TheVariants as stop
-use Rattle.written_texts.proofs.PieceLemmas.{writes_short, writes_then}
 use Rattle.avida_program.proofs.TextEnds.{stopped_within, wanting_within}
 
 -- one more text

@@ -1,15 +1,9 @@
 -- How long a run is changes none of its worlds.
 use Rattle.std.proofs.Common.{◌≡◌, ℕ, zero, suc, List, map, length, slice_index_or, refl, Option, None, Some}
 use Rattle.std.specs.Prelude.{fold}
-use Rattle.std.specs.List.{range_with_len}
-use Rattle.world_config.specs.Events.{EventValue, WhatValue, inject, clear, rate}
-use Rattle.world_config.specs.Values.{ConfigValues}
+use Rattle.avida_program.proofs.Prelude.{range_with_len, EventValue, WhatValue, inject, clear, rate, ConfigValues, Scene, Occupant, World, first_world, founder_of, rates_at, settings_at, world_after}
 use Rattle.world_rules.specs.Lives.{life_of, lives_of, slice_at, slices_at}
-use Rattle.world_rules.specs.Scene.{Scene}
-use Rattle.world_rules.specs.Settings.{rates_at, settings_at}
 use Rattle.world_rules.specs.Update.{Delivery, after_births, after_event, after_events, after_what, events_at, last_scene, next_scene, next_world, placings_of, scene_of_lives, with_newborn}
-use Rattle.world_rules.specs.World.{Occupant, World, first_world, founder_of}
-use Rattle.world_rules.specs.WorldRun.{world_after}
 
 module _ (config : ConfigValues) (updates : ℕ) where
   -- the configuration with so many updates

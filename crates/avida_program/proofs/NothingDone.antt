@@ -1,18 +1,9 @@
 -- A call for which memory ran out before anything was done.
 use Rattle.std.proofs.Common.{ℕ, Option, None, Some, IfSome, Result, Err, refl, inl, inr}
-use Rattle.world_config.specs.Values.{ConfigValues}
-use Rattle.world_core.specs.WorldValue.{WorldValue}
-use Rattle.avida_port.specs.Ports.{SinkState, SourceState}
+use Rattle.avida_program.proofs.Prelude.{ConfigValues, WorldValue, SinkState, SourceState, Command, Refusal, GivenBy, configuration_of, bench_text, Work, Stays, unchanged, Does, Obeys, Watches}
 use Rattle.written_texts.proofs.GainedLemmas.{stays_front}
-use Rattle.avida_program.specs.declared.command.Command.{Command}
 use Rattle.avida_program.specs.declared.command.Command.TheVariants.{Run, Lineage, Bench}
 use Rattle.avida_program.specs.declared.call_error.CallError.TheVariants as error
-use Rattle.avida_program.specs.declared.refusal.Refusal.{Refusal}
-use Rattle.avida_program.specs.Input.{GivenBy, configuration_of}
-use Rattle.avida_program.specs.BenchText.{bench_text}
-use Rattle.avida_program.specs.Changes.{Work}
-use Rattle.written_texts.specs.SinkChanges.{Stays, unchanged}
-use Rattle.avida_program.specs.Commands.{Does, Obeys, Watches}
 use Rattle.avida_program.proofs.ReadEnds.{carried}
 
 -- a watcher that has written nothing

@@ -1,22 +1,9 @@
 -- How a command ends that reads an input and writes a text of it.
 use Rattle.std.proofs.Common.{◌≡◌, ◌↔◌, ◌⊎◌, ℕ, List, false, Option, None, Result, Ok, Err, IsErrAnd, OnErr, refl, inl, inr, sym, subst}
 use Rattle.std.specs.Prelude.{⊤}
-use Rattle.avida_port.specs.Ports.{SinkState, SourceState}
-use Rattle.logged_run.specs.RunStops.{PutFailed}
-use Rattle.written_texts.specs.SinkChanges.{Change, Stays, change, unchanged}
-use Rattle.written_texts.specs.WrittenText.{WritesAll}
-use Rattle.written_texts.specs.declared.stop.WriteStop.{WriteStop}
+use Rattle.avida_program.proofs.Prelude.{SinkState, SourceState, PutFailed, Change, Stays, change, unchanged, WritesAll, WriteStop, CallError, Command, Refusal, OnBytes, SourceFailed, Work, WritesText, GivesInput, GivesNoInput, ReadsAndWrites, ended_by, leaves_world, looks_of, CarriesOut, Does, Reads, ReadsInput, GivenBy, IsInputWith, Ended}
 use Rattle.written_texts.specs.declared.stop.WriteStop.TheVariants as stop
-use Rattle.avida_program.specs.declared.call_error.CallError.{CallError}
 use Rattle.avida_program.specs.declared.call_error.CallError.TheVariants as error
-use Rattle.avida_program.specs.declared.command.Command.{Command}
-use Rattle.avida_program.specs.declared.refusal.Refusal.{Refusal}
-use Rattle.avida_program.specs.Changes.{OnBytes, SourceFailed, Work, WritesText}
-use Rattle.avida_program.specs.CommandLine.{leaves_world, looks_of}
-use Rattle.avida_program.specs.Commands.{CarriesOut, Does, Reads, ReadsInput}
-use Rattle.avida_program.specs.Endings.{GivesInput, GivesNoInput, ReadsAndWrites, ended_by}
-use Rattle.avida_program.specs.Input.{GivenBy, IsInputWith}
-use Rattle.avida_program.specs.Status.{Ended}
 
 -- a fault has its cause
 abbrev pub IsCaused : Command → Work → Ended → Type 0

@@ -1,14 +1,7 @@
 -- How a saved world goes on, and how what it writes adds up.
 use Rattle.std.proofs.Common.{◌≡◌, ◌<◌, ◌+◌, ℕ, zero, suc, Result, Ok, Err, refl, sym, ap, ◌∙◌, add-zero, add-one, arith, subst}
-use Rattle.avida_port.specs.Ports.{SinkState}
-use Rattle.saved_worlds.specs.SavedState.{SavedState}
-use Rattle.saved_worlds.specs.Resuming.{config_of_head, continued_text, later_texts, next_state, next_text, saved_state_after, world_of_state}
-use Rattle.saved_worlds.proofs.Updates.{next_update}
-use Rattle.world_rules.specs.LogText.{end_text}
-use Rattle.written_texts.specs.declared.stop.WriteStop.{WriteStop}
-use Rattle.written_texts.specs.WrittenText.{WritesAll}
+use Rattle.avida_program.proofs.Prelude.{SinkState, SavedState, config_of_head, continued_text, later_texts, next_state, next_text, saved_state_after, world_of_state, next_update, end_text, WriteStop, WritesAll, Grows, part_stopped, part_written}
 use Rattle.written_texts.proofs.WriteLemmas.{writes_short, writes_then}
-use Rattle.written_texts.proofs.GrowingTexts.{Grows, part_stopped, part_written}
 
 -- one update more
 pub next_state_update : (state : SavedState)

@@ -1,33 +1,11 @@
 -- A run whose configuration was read, by how it ended.
 use Rattle.std.proofs.Common.{◌≡◌, ◌∙◌, ℕ, List, Option, None, Some, IfSome, Result, Ok, Err, OnErr, OnOk, refl, sym, ap, inl, inr}
-use Rattle.std.proofs.lemmas.Bool.{false≢true}
-use Rattle.log_lines.specs.Line.{Line}
+use Rattle.avida_program.proofs.Prelude.{false≢true, Line, ReadsLog, ConfigValues, SinkState, WorldValue, world_in, ReplaysToLiving, residents_of_world, world_after, Lineage, Run, CallError, Refusal, WriteStop, Change, GainedText, Stays, OnBytes, Work, GivesInput, GivesNoInput, ReadsAndWrites, error_at, GivenBy, IsInputWith, configuration_of, lineage_input_of, StopsRun, IsFinalWorld, run_text, GainedLogOf, LeavesFinal, path_text, Ended, CarriesOut, Watches}
 use Rattle.lineage_log.specs.LogGrammar.{Reads}
-use Rattle.lineage_log.specs.ReadsLog.{ReadsLog}
-use Rattle.world_config.specs.Values.{ConfigValues}
-use Rattle.avida_port.specs.Ports.{SinkState}
-use Rattle.world_core.specs.WorldValue.{WorldValue, world_in}
-use Rattle.world_rules.specs.Laws.{ReplaysToLiving}
-use Rattle.world_rules.specs.WorldRun.{residents_of_world, world_after}
-use Rattle.command_line.specs.declared.positional.Lineage.{Lineage}
-use Rattle.command_line.specs.declared.run.Run.{Run}
 use Rattle.avida_program.specs.declared.command.Command.TheVariants as command
-use Rattle.avida_program.specs.declared.call_error.CallError.{CallError}
 use Rattle.avida_program.specs.declared.call_error.CallError.TheVariants as error
-use Rattle.avida_program.specs.declared.refusal.Refusal.{Refusal}
-use Rattle.written_texts.specs.declared.stop.WriteStop.{WriteStop}
 use Rattle.written_texts.specs.declared.stop.WriteStop.TheVariants as stop
-use Rattle.written_texts.specs.SinkChanges.{Change, GainedText, Stays}
-use Rattle.avida_program.specs.Changes.{OnBytes, Work}
-use Rattle.avida_program.specs.Input.{GivenBy, IsInputWith, configuration_of, lineage_input_of}
-use Rattle.avida_program.specs.Endings.{GivesInput, GivesNoInput, ReadsAndWrites, error_at}
-use Rattle.logged_run.specs.RunStops.{StopsRun}
-use Rattle.logged_run.specs.RunText.{IsFinalWorld, run_text}
-use Rattle.avida_program.specs.FinalWorld.{GainedLogOf, LeavesFinal}
-use Rattle.avida_program.specs.PathText.{path_text}
-use Rattle.avida_program.specs.Status.{Ended}
-use Rattle.logged_run.specs.WatchText.{GainedPictures}
-use Rattle.avida_program.specs.Commands.{CarriesOut, Watches}
+use Rattle.logged_run.specs.Watching.{GainedPictures}
 use Rattle.avida_program.proofs.ReadEnds.{carried, nothing_caused, nothing_read, reads_and_writes}
 
 -- the world after the last update, by its value

@@ -1,20 +1,8 @@
 -- A run that is saved and resumed goes on.
 use Rattle.std.proofs.Common.{◌≡◌, ◌≤◌, ◌+◌, refl, ◌++◌, ℕ, List, false, Result, Ok, Err, length, arith}
 use Rattle.std.specs.Prelude.{nat_lt}
-use Rattle.std.proofs.lemmas.Grind.{common_steps}
+use Rattle.avida_program.proofs.Prelude.{common_steps, continued_text, saved_of, SavedState, state_of, update_of, ConfigValues, head_text, log_text, updates_text, Refusal, Saved, refused_as, unless_too_long, with_more, resume_input_of, saved_input_of, CanResume, ResumesExactly, save_text}
 use Rattle.std.proofs.lemmas.Bool.Decides.{nat_tests}
-use Rattle.saved_worlds.specs.Resuming.{continued_text}
-use Rattle.saved_worlds.specs.SavedGrammar.{saved_of}
-use Rattle.saved_worlds.specs.SavedState.{SavedState, state_of}
-use Rattle.saved_worlds.proofs.Updates.{update_of}
-use Rattle.world_config.specs.Values.{ConfigValues}
-use Rattle.world_rules.specs.LogText.{head_text, log_text, updates_text}
-use Rattle.avida_program.specs.declared.refusal.Refusal.{Refusal}
-use Rattle.avida_program.specs.declared.refusal.Refusal.TheVariants.{Saved}
-use Rattle.avida_program.specs.Input.{refused_as, unless_too_long, with_more}
-use Rattle.avida_program.specs.InputAnswers.{resume_input_of, saved_input_of}
-use Rattle.avida_program.specs.ResumedRun.{CanResume, ResumesExactly}
-use Rattle.avida_program.specs.SaveText.{save_text}
 
 -- a test that fails
 not_below : (least n : ℕ) → n ≤ least → nat_lt least n ≡ false

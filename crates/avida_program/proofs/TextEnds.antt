@@ -1,13 +1,9 @@
 -- How a text that goes through a piece ends.
 use Rattle.std.proofs.Common.{◌≡◌, ◌∙◌, Result, Ok, Err, List, ℕ, [], ◌++◌, append_assoc, ap, sym}
-use Rattle.avida_port.specs.Ports.{SinkState, Puts}
-use Rattle.avida_port.specs.declared.sink.SinkStop.{SinkStop}
-use Rattle.written_texts.specs.Pieces.{Writes}
-use Rattle.written_texts.specs.WrittenText.{WritesAll, write_stop_of}
-use Rattle.written_texts.specs.declared.stop.WriteStop.{WriteStop}
+use Rattle.avida_program.proofs.Prelude.{SinkState, Puts, SinkStop, Writes, WritesAll, write_stop_of, WriteStop, put_ended}
 use Rattle.written_texts.specs.declared.stop.WriteStop.TheVariants as stop
 use Rattle.written_texts.proofs.PutLemmas.{puts_short}
-use Rattle.written_texts.proofs.WriteLemmas.{put_ended, writes_then}
+use Rattle.written_texts.proofs.WriteLemmas.{writes_then}
 
 -- a text that is put whole is written
 pub text_put : {a b : SinkState} {text : List ℕ} → Puts {T = Unit {0}} a b text (Ok tt)

@@ -1,15 +1,7 @@
 -- The lines of a trace, cut at a step.
 use Rattle.std.proofs.Common.{◌≡◌, ◌<◌, ◌-◌, ◌+◌, ℕ, zero, suc, List, [], ◌∷◌, ◌++◌, Result, Ok, sym, ap, ◌∙◌, add-zero, add-one, append_assoc, append-nil, arith, subst}
-use Rattle.std.specs.List.{flat_map, range_with_len}
-use Rattle.std.proofs.lemmas.Grind.{flat_map-append}
-use Rattle.avida_port.specs.declared.sink.SinkStop.{SinkStop}
-use Rattle.avida_port.specs.Ports.{SinkState}
+use Rattle.avida_program.proofs.Prelude.{flat_map, range_with_len, flat_map-append, SinkStop, SinkState, TracedStep, trace_step_of, Writes, organism_after, step_after, trace_line, trace_lines, writes_then}
 use Rattle.organism.specs.OrganismState.{OrganismState}
-use Rattle.organism.specs.TracedStep.{TracedStep, trace_step_of}
-use Rattle.written_texts.specs.Pieces.{Writes}
-use Rattle.landscape.specs.Trace.{organism_after, step_after}
-use Rattle.avida_program.specs.TraceText.{trace_line, trace_lines}
-use Rattle.written_texts.proofs.PieceLemmas.{writes_then}
 
 -- the numbers from one on, and the next one
 range_more : (a n next : ℕ) → a + n ≡ next

@@ -1,31 +1,19 @@
 -- What a call of the program reads, writes and leaves, by how it ends (docs/FORMATS.md, "The
 -- command line" and "Statuses and fault lines"). The number of workers changes nothing.
 use Rattle.std.specs.Prelude.{◌≡◌, ◌≢◌, ◌⊎◌, false, ℕ, List, [], Option, None, Some, IfSome, Result, Ok, Err, OnOk, OnErr}
-use Rattle.assay.specs.AssayText.{assay_text}
-use Rattle.landscape.specs.LandscapeText.{landscape_text}
-use Rattle.phylogeny.specs.TreeText.{tree_text}
-use Rattle.saved_worlds.specs.Resuming.{continued_text}
-use Rattle.world_config.specs.Values.{ConfigValues}
-use Rattle.world_core.specs.WorldValue.{WorldValue}
-use Rattle.written_texts.specs.SinkChanges.{Change, Stays, SinkFailed, GainedText, GainedFront}
-use Rattle.avida_port.specs.Ports.{SinkState}
-use Rattle.logged_run.specs.RunStops.{PutFailed}
-use Rattle.logged_run.specs.RunText.{run_text}
-use Rattle.logged_run.specs.WatchText.{GainedPictures, GainedPicturesFront}
+use Rattle.avida_program.specs.Prelude.{assay_text, landscape_text, tree_text, continued_text, ConfigValues, WorldValue, Change, Stays, SinkFailed, GainedText, GainedFront, SinkState, run_text}
+use Rattle.logged_run.specs.WatchedRun.{PutFailed}
+use Rattle.logged_run.specs.Watching.{GainedPictures, GainedPicturesFront}
 use Rattle.avida_program.specs.declared.command.Command.{Command}
 use Rattle.avida_program.specs.declared.command.Command.TheVariants.{Trace, Run, Lineage, Bench, Assay, Save, Resume, Advance, Replay, Upgrade, Tree, Landscape}
 use Rattle.avida_program.specs.declared.command.Spelling.TheVariants.{Letters}
 use Rattle.avida_program.specs.declared.call_error.CallError.TheVariants as error
 use Rattle.avida_program.specs.declared.refusal.Refusal.{Refusal}
 use Rattle.avida_program.specs.declared.status.Status.{Status}
-use Rattle.avida_program.specs.BenchText.{bench_config, bench_text}
-use Rattle.avida_program.specs.Changes.{OnBytes, SourceFailed, TellsOf, Work, WritesText}
+use Rattle.avida_program.specs.Output.{bench_config, bench_text, path_text, replay_text, upgrade_text, advanced_text, save_text, GainedLogOf, LeavesFinal}
+use Rattle.avida_program.specs.Endings.{OnBytes, SourceFailed, TellsOf, Work, WritesText}
 use Rattle.avida_program.specs.CommandLine.{leaves_world, looks_of, spelling_of}
-use Rattle.avida_program.specs.FinalWorld.{GainedLogOf, LeavesFinal}
 use Rattle.avida_program.specs.Input.{GivenBy, IsInputWith, ReadsLines, ReadsState, assay_input_of, configuration_of, genome_of_input, lineage_input_of}
-use Rattle.avida_program.specs.PathText.{path_text}
-use Rattle.avida_program.specs.ReplayText.{replay_text, upgrade_text}
-use Rattle.avida_program.specs.SaveText.{advanced_text, save_text}
 use Rattle.avida_program.specs.Status.{Ended, status_of}
 use Rattle.avida_program.specs.TraceText.{trace_text}
 

@@ -1,17 +1,10 @@
 -- Which input a command takes (docs/FORMATS.md, "Genomes by letters", "Genomes by names", "The
--- configuration", "The log" and "Saved worlds").
+-- configuration", "The log" and "Saved worlds"). What logs and saved worlds are read as by
+-- functions serves the contracts below `serve`.
 use Rattle.std.specs.Prelude.{◌≡◌, ◌*◌, ◌+◌, ℕ, List, Result, Ok, Err, length, nat_lt, if◌then◌else◌}
-use Rattle.instruction_set.specs.declared.letter.Letter.{Letter}
-use Rattle.genome.specs.declared.stop.GenomeStop.{GenomeStop}
+use Rattle.avida_program.specs.Prelude.{Letter, GenomeStop, Line, ReadsLog, LogStop, SavedState, SavedStop, config_of, ConfigValues, log_of}
 use Rattle.genome.specs.GenomeText.{spelled_by_letters, spelled_by_names}
-use Rattle.log_lines.specs.Line.{Line}
-use Rattle.lineage_log.specs.ReadsLog.{ReadsLog}
-use Rattle.lineage_log.specs.declared.log_stop.LogStop.{LogStop}
-use Rattle.saved_worlds.specs.ReadsSaved.{ReadsSaved}
-use Rattle.saved_worlds.specs.SavedState.{SavedState}
-use Rattle.saved_worlds.specs.declared.saved_stop.SavedStop.{SavedStop}
-use Rattle.world_config.specs.Config.{config_of}
-use Rattle.world_config.specs.Values.{ConfigValues}
+use Rattle.saved_worlds.specs.SavedGrammar.{ReadsSaved, saved_of}
 use Rattle.avida_program.specs.declared.command.Spelling.{Spelling}
 use Rattle.avida_program.specs.declared.command.Spelling.TheVariants.{Letters, Names}
 use Rattle.avida_program.specs.declared.refusal.Refusal.{Refusal}
@@ -85,3 +78,15 @@ ReadsLines bytes answer = (read : Result (List Line) LogStop) × ReadsLog bytes 
 abbrev pub ReadsState : ℕ → List ℕ → Result SavedState Refusal → Type 0
 ReadsState more bytes answer = (read : Result SavedState SavedStop) × ReadsSaved bytes read
     × (with_more more (unless_too_long 536870912 bytes (refused_as Saved read)) ≡ answer)
+
+-- the lines of an input that is a log, or why it is refused
+abbrev pub log_input_of : List ℕ → Result (List Line) Refusal
+log_input_of bytes = unless_too_long 536870912 bytes (refused_as Log (log_of bytes))
+
+-- the state of an input that is a saved world, or why it is refused
+abbrev pub saved_input_of : List ℕ → Result SavedState Refusal
+saved_input_of bytes = unless_too_long 536870912 bytes (refused_as Saved (saved_of bytes))
+
+-- the state of an input of which so many more updates are asked for, or why it is refused
+abbrev pub resume_input_of : ℕ → List ℕ → Result SavedState Refusal
+resume_input_of more bytes = with_more more (saved_input_of bytes)

@@ -1,19 +1,15 @@
 -- Statuses, and the lines that tell of them (docs/FORMATS.md, "Statuses and fault lines").
 use Rattle.std.specs.Prelude.{ℕ, ◌&&◌, nat_le, if◌then◌else◌, List, [], ◌++◌, Result, Ok, Err, map, take, codes, decimal}
-use Rattle.std.specs.Fmt.{signed_decimal}
+use Rattle.avida_program.specs.Prelude.{signed_decimal, GenomeStop, LogStop, SavedStop, key_name}
 use Rattle.avida_program.specs.declared.status.Status.{Status}
 use Rattle.avida_program.specs.declared.status.Status.TheVariants as status
 use Rattle.avida_program.specs.declared.call_error.CallError.{CallError}
 use Rattle.avida_program.specs.declared.call_error.CallError.TheVariants as error
 use Rattle.avida_program.specs.declared.refusal.Refusal.{Refusal}
 use Rattle.avida_program.specs.declared.refusal.Refusal.TheVariants.{TooLong, Genome, Config, Log, Saved, Cell, Cells, Updates}
-use Rattle.genome.specs.declared.stop.GenomeStop.{GenomeStop}
 use Rattle.genome.specs.declared.stop.GenomeStop.TheVariants as stop
-use Rattle.lineage_log.specs.declared.log_stop.LogStop.{LogStop}
 use Rattle.lineage_log.specs.declared.log_stop.LogStop.TheVariants as log
-use Rattle.saved_worlds.specs.declared.saved_stop.SavedStop.{SavedStop}
 use Rattle.saved_worlds.specs.declared.saved_stop.SavedStop.TheVariants as saved
-use Rattle.world_config.specs.KeyTable.{key_name}
 use Rattle.world_config.specs.declared.stop.ConfigStop.{ConfigStop}
 use Rattle.world_config.specs.declared.stop.ConfigStop.TheVariants as config
 

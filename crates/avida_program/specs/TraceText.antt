@@ -1,15 +1,10 @@
 -- What `trace` writes (docs/FORMATS.md, "Trace lines").
 use Rattle.std.specs.Prelude.{ℕ, ◌+◌, ◌++◌, [], List, map, codes, decimal}
-use Rattle.std.specs.List.{flat_map, range_with_len}
-use Rattle.instruction_set.specs.declared.letter.Letter.{Letter}
-use Rattle.instruction_set.specs.Letter.{byte_of, name_of}
+use Rattle.avida_program.specs.Prelude.{flat_map, range_with_len, Letter, byte_of, name_of, rule_name_of, TracedStep, TracedRemark, nothing, task, refused, divide, spaced, spaced_value}
 use Rattle.logic_tasks.specs.LogicTasks as tasks
-use Rattle.divide_rules.specs.RuleName.{rule_name_of}
 use Rattle.organism.specs.OrganismState.{OrganismState}
-use Rattle.organism.specs.TracedStep.{TracedStep, TracedRemark, nothing, task, refused, divide}
-use Rattle.landscape.specs.Trace.{organism_alone, step_after}
+use Rattle.landscape.specs.Trials.{organism_alone, step_after}
 use Rattle.logic_tasks.specs.Inputs.{inputs_of}
-use Rattle.written_texts.specs.NumberText.{spaced, spaced_value}
 
 -- what stands behind the registers
 abbrev pub remark_text : TracedRemark → List ℕ

@@ -1,11 +1,9 @@
 // The command `advance`.
 ghost use Rattle.std.specs.Prelude.{◌≡◌, ◌≤◌, ◌+◌, IfOk};
-ghost use Rattle.saved_worlds.specs.Resuming.{saved_state_after};
-ghost use Rattle.written_texts.specs.SinkChanges.{change};
-ghost use Rattle.written_texts.specs.WrittenText.{WritesAll};
-ghost use Rattle.avida_program.specs.SaveText.{advanced_text};
+ghost use Rattle.avida_program.specs.Prelude.{saved_state_after, change, WritesAll};
+ghost use Rattle.avida_program.specs.Output.{advanced_text};
 ghost use Rattle.avida_program.specs.Endings.{ReadsAndWrites};
-ghost use Rattle.avida_program.specs.InputAnswers.{resume_input_of};
+ghost use Rattle.avida_program.specs.Input.{resume_input_of};
 
 use crate::call_error::{CallError, ended_by};
 use crate::input::read_state_for;

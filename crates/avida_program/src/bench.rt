@@ -1,15 +1,8 @@
 // The command `bench`.
 ghost use Rattle.std.specs.Prelude.{◌≡◌, ◌≤◌, ◌<◌, ◌+◌, ◌^◌, ◌++◌, IfOk, OnOk, codes, decimal, length};
-ghost use Rattle.avida_port.specs.Ports.{SinkState, SourceState};
-ghost use Rattle.log_lines.specs.Line.{Count};
-ghost use Rattle.log_lines.specs.LineText.{line_text};
-ghost use Rattle.world_config.specs.Shown.{values_of};
-ghost use Rattle.world_rules.specs.LogText.{end_text, head_text};
+ghost use Rattle.avida_program.specs.Prelude.{SinkState, SourceState, Count, line_text, values_of, end_text, head_text, change, unchanged, IsEndOf, IsFinalWorld};
 ghost use Rattle.avida_program.specs.declared.command.Command.TheVariants as command;
-ghost use Rattle.avida_program.specs.BenchText.{bench_config, bench_text, sums_text};
-ghost use Rattle.written_texts.specs.SinkChanges.{change, unchanged};
-ghost use Rattle.logged_run.specs.RunSums.{IsEndOf};
-ghost use Rattle.logged_run.specs.RunText.{IsFinalWorld};
+ghost use Rattle.avida_program.specs.Output.{bench_config, bench_text, sums_text};
 ghost use Rattle.avida_program.specs.Commands.{CarriesOut};
 
 use crate::call_error::CallError;

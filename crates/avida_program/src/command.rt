@@ -1,6 +1,6 @@
 // The words of a command line.
 ghost use Rattle.std.specs.Prelude.{◌≡◌, ◌<◌, Some, MatchResult, IfOk, drop, length, map, string_bytes};
-ghost use Rattle.command_line.specs.Refusals.{Refuses};
+ghost use Rattle.command_line.specs.Reading.{Refuses};
 ghost use Rattle.avida_program.specs.CommandLine.{HasNumbersInRange, bare_command, command_named, command_of, spelling_of};
 
 use command_line::{

@@ -1,8 +1,6 @@
 // The line that tells why a call isn't done, made in a fixed text.
 ghost use Rattle.std.specs.Prelude.{◌≡◌, ◌≤◌, ◌+◌, ◌++◌, length, codes, decimal, map};
-ghost use Rattle.std.specs.Fmt.{signed_decimal};
-ghost use Rattle.arrayvec.specs.ArrayVec.{array_vec_len};
-ghost use Rattle.world_config.specs.KeyTable.{key_name};
+ghost use Rattle.avida_program.specs.Prelude.{signed_decimal, array_vec_len, key_name};
 ghost use Rattle.avida_program.specs.Status.{config_reason, fault_line, genome_reason, log_reason, reason_of, saved_reason, shown_byte, shown_key};
 
 use crate::call_error::CallError;

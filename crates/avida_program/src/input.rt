@@ -1,13 +1,7 @@
 // What a command reads.
 ghost use Rattle.std.specs.Prelude.{◌≡◌, ◌≢◌, ◌≤◌, ◌<◌, ◌*◌, ◌+◌, ℕ, List, [], length, Some, IfOk, IfErr, OnOk, Ok, Err};
-ghost use Rattle.avida_port.specs.Ports.{IsAllOf};
-ghost use Rattle.genome.specs.Genome.{letters};
-ghost use Rattle.lineage_log.specs.Replay.{replay_of};
-ghost use Rattle.log_lines.specs.Line.{Line};
-ghost use Rattle.world_config.specs.Shown.{values_of};
-ghost use Rattle.written_texts.specs.SinkChanges.{change};
-ghost use Rattle.avida_program.specs.Input.{assay_input_of, configuration_of, genome_of_input, genome_spelled, lineage_input_of};
-ghost use Rattle.avida_program.specs.InputAnswers.{log_input_of, resume_input_of, saved_input_of};
+ghost use Rattle.avida_program.specs.Prelude.{IsAllOf, letters, replay_of, Line, values_of, change};
+ghost use Rattle.avida_program.specs.Input.{assay_input_of, configuration_of, genome_of_input, genome_spelled, lineage_input_of, log_input_of, resume_input_of, saved_input_of};
 ghost use Rattle.avida_program.specs.Endings.{GivesInput, GivesNoInput, StopsReading};
 
 use crate::call_error::CallError;

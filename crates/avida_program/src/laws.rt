@@ -1,13 +1,9 @@
 // The program's limits, and what holds of its commands together (docs/FORMATS.md, "The command
 // line" and "Statuses and fault lines"; docs/WORLD.md, "Saved worlds").
 ghost use Rattle.std.specs.Prelude.{◌≡◌, ◌↔◌, ℕ, List, Result};
-ghost use Rattle.log_lines.specs.Line.{Line};
-ghost use Rattle.saved_worlds.specs.SavedState.{SavedState};
-ghost use Rattle.world_config.specs.Shown.{values_of};
-ghost use Rattle.avida_program.specs.AdvancedRun.{AddsUp, AdvancesExactly, AdvancesInTwo, CanAdvanceInTwo, ResumesInTwo};
-ghost use Rattle.avida_program.specs.Input.{ReadsLines, ReadsState};
-ghost use Rattle.avida_program.specs.InputAnswers.{log_input_of, resume_input_of};
-ghost use Rattle.avida_program.specs.ResumedRun.{CanResume, ResumesExactly};
+ghost use Rattle.avida_program.specs.Prelude.{Line, SavedState, values_of};
+ghost use Rattle.avida_program.specs.SavedRuns.{AddsUp, AdvancesExactly, AdvancesInTwo, CanAdvanceInTwo, ResumesInTwo, CanResume, ResumesExactly};
+ghost use Rattle.avida_program.specs.Input.{ReadsLines, ReadsState, log_input_of, resume_input_of};
 ghost use Rattle.avida_program.specs.declared.refusal.Refusal.{Refusal};
 
 use crate::input::{INPUT_LIMIT, MOST_CELLS};

@@ -1,15 +1,8 @@
 // The command `lineage`.
 ghost use Rattle.std.specs.Prelude.{◌≡◌, ◌≤◌, ◌<◌, ◌*◌, ◌++◌, IfOk, OnOk, flat_map, option_map};
-ghost use Rattle.avida_port.specs.Ports.{SinkState};
-ghost use Rattle.mutations.specs.BirthRecord.{record_of};
-ghost use Rattle.world_config.specs.Shown.{values_of};
-ghost use Rattle.world_core.specs.WorldValue.{world_in};
-ghost use Rattle.world_rules.specs.Descent.{line_in};
+ghost use Rattle.avida_program.specs.Prelude.{SinkState, record_of, values_of, world_in, line_in, change, unchanged, WritesAll, IsFinalWorld};
 ghost use Rattle.avida_program.specs.declared.command.Command.TheVariants as command;
-ghost use Rattle.written_texts.specs.SinkChanges.{change, unchanged};
-ghost use Rattle.written_texts.specs.WrittenText.{WritesAll};
-ghost use Rattle.avida_program.specs.PathText.{origin_text, parent_text, path_line, path_lines, path_text, place_text};
-ghost use Rattle.logged_run.specs.RunText.{IsFinalWorld};
+ghost use Rattle.avida_program.specs.Output.{origin_text, parent_text, path_line, path_lines, path_text, place_text};
 ghost use Rattle.avida_program.specs.Commands.{CarriesOut};
 
 use crate::call_error::CallError;

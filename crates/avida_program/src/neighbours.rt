@@ -1,11 +1,6 @@
 // The command `landscape`.
 ghost use Rattle.std.specs.Prelude.{◌≡◌, ◌+◌, ◌++◌, ◌≤◌, cond, flat_map};
-ghost use Rattle.arrayvec.specs.ArrayVec.{array_vec_len};
-ghost use Rattle.genome.specs.Genome.{letters};
-ghost use Rattle.landscape.specs.LandscapeText.{base_line, entry_line, landscape_text, neighbour_line, survey_text, totals_line, trial_text};
-ghost use Rattle.written_texts.specs.SinkChanges.{change};
-ghost use Rattle.written_texts.specs.Pieces.{Writes};
-ghost use Rattle.written_texts.specs.WrittenText.{WritesAll};
+ghost use Rattle.avida_program.specs.Prelude.{array_vec_len, letters, base_line, entry_line, landscape_text, neighbour_line, survey_text, totals_line, trial_text, change, Writes, WritesAll};
 ghost use Rattle.avida_program.specs.declared.command.Spelling.TheVariants.{Letters};
 ghost use Rattle.avida_program.specs.Endings.{ReadsAndWrites};
 ghost use Rattle.avida_program.specs.Input.{genome_of_input};

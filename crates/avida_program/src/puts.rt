@@ -1,8 +1,6 @@
 // Texts that are put whole.
 ghost use Rattle.std.specs.Prelude.{ℕ, List, [], Ok};
-ghost use Rattle.avida_port.specs.Ports.{SinkState};
-ghost use Rattle.written_texts.specs.Pieces.{Writes};
-ghost use Rattle.written_texts.specs.WrittenText.{WritesAll};
+ghost use Rattle.avida_program.specs.Prelude.{SinkState, Writes, WritesAll};
 
 use avida_port::Sink;
 use written_texts::{Piece, WriteStop};

@@ -1,14 +1,9 @@
 // The command `replay`.
 ghost use Rattle.std.specs.Prelude.{◌≡◌, ◌+◌, ◌++◌, ◌≤◌, List, flat_map, codes, decimal};
-ghost use Rattle.arrayvec.specs.ArrayVec.{array_vec_len};
-ghost use Rattle.lineage_log.specs.Replay.{replay_of};
-ghost use Rattle.log_lines.specs.Line.{Line};
-ghost use Rattle.written_texts.specs.SinkChanges.{change};
-ghost use Rattle.written_texts.specs.Pieces.{Writes};
-ghost use Rattle.written_texts.specs.WrittenText.{WritesAll};
-ghost use Rattle.avida_program.specs.ReplayText.{replay_text, resident_line};
+ghost use Rattle.avida_program.specs.Prelude.{array_vec_len, replay_of, Line, change, Writes, WritesAll};
+ghost use Rattle.avida_program.specs.Output.{replay_text, resident_line};
 ghost use Rattle.avida_program.specs.Endings.{ReadsAndWrites};
-ghost use Rattle.avida_program.specs.InputAnswers.{log_input_of};
+ghost use Rattle.avida_program.specs.Input.{log_input_of};
 
 use crate::call_error::{CallError, ended_by};
 use crate::input::read_livings;

@@ -1,11 +1,8 @@
 // The command `resume`.
 ghost use Rattle.std.specs.Prelude.{◌≡◌, ◌≤◌, ◌<◌, ◌+◌, IfOk};
-ghost use Rattle.saved_worlds.specs.Resuming.{continued_text, later_texts, next_state, next_text, saved_state_after};
-ghost use Rattle.world_rules.specs.LogText.{end_text};
-ghost use Rattle.written_texts.specs.SinkChanges.{change};
-ghost use Rattle.written_texts.specs.WrittenText.{WritesAll};
+ghost use Rattle.avida_program.specs.Prelude.{continued_text, later_texts, next_state, next_text, saved_state_after, end_text, change, WritesAll};
 ghost use Rattle.avida_program.specs.Endings.{ReadsAndWrites};
-ghost use Rattle.avida_program.specs.InputAnswers.{resume_input_of};
+ghost use Rattle.avida_program.specs.Input.{resume_input_of};
 
 use crate::call_error::{CallError, ended_by};
 use crate::input::read_state_for;

@@ -1,9 +1,7 @@
 // The command `save`.
 ghost use Rattle.std.specs.Prelude.{◌≤◌};
-ghost use Rattle.world_config.specs.Shown.{values_of};
-ghost use Rattle.written_texts.specs.SinkChanges.{change};
-ghost use Rattle.written_texts.specs.WrittenText.{WritesAll};
-ghost use Rattle.avida_program.specs.SaveText.{save_text};
+ghost use Rattle.avida_program.specs.Prelude.{values_of, change, WritesAll};
+ghost use Rattle.avida_program.specs.Output.{save_text};
 ghost use Rattle.avida_program.specs.Endings.{ReadsAndWrites};
 ghost use Rattle.avida_program.specs.Input.{configuration_of};
 

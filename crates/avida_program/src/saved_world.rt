@@ -1,11 +1,10 @@
 // Writes a saved world.
 ghost use Rattle.std.specs.Prelude.{◌<◌, ◌*◌, None, length, slice_index_or};
-ghost use Rattle.lineage_log.specs.Slots.{taken};
+ghost use Rattle.avida_program.specs.Prelude.{saved_text, slot_text, WritesAll};
+ghost use Rattle.lineage_log.specs.Reader.{taken};
 ghost use Rattle.world_rules.specs.World.{ids_of};
 ghost use Rattle.saved_lines.specs.SavedText as text;
-ghost use Rattle.saved_worlds.specs.SavedWorldText.{saved_text, slot_text};
-ghost use Rattle.checkpoint.specs.Parts.{first_cells_text};
-ghost use Rattle.written_texts.specs.WrittenText.{WritesAll};
+ghost use Rattle.checkpoint.specs.Reading.{first_cells_text};
 
 use crate::puts::put_text;
 use avida_port::Sink;

@@ -1,11 +1,6 @@
 // The command `assay`.
 ghost use Rattle.std.specs.Prelude.{◌≡◌, ◌≤◌, ◌∷◌, ◌++◌, IfOk, OnOk, decimal, map, option_map};
-ghost use Rattle.genome.specs.Genome.{letters};
-ghost use Rattle.log_lines.specs.LineText.{words_text};
-ghost use Rattle.world_config.specs.Shown.{values_of};
-ghost use Rattle.assay.specs.AssayText.{assay_line, assay_numbers, assay_text, assays_text, dominant_word, tally_line};
-ghost use Rattle.written_texts.specs.SinkChanges.{change};
-ghost use Rattle.written_texts.specs.WrittenText.{WritesAll};
+ghost use Rattle.avida_program.specs.Prelude.{letters, words_text, values_of, assay_line, assay_numbers, assay_text, assays_text, dominant_word, tally_line, change, WritesAll};
 ghost use Rattle.avida_program.specs.Endings.{ReadsAndWrites};
 ghost use Rattle.avida_program.specs.Input.{assay_input_of};
 
@@ -73,7 +68,7 @@ fn add_dominant(text: &mut Vec<u8>, dominant: &Option<Genome>) -> Result<(), Mem
 }
 
 /// Appends the line of a seed.
-#[tactic(auto, unfolding(assay::specs::AssayText::assay_line))]
+#[tactic(auto, unfolding(assay::specs::Assay::assay_line))]
 fn add_assay(text: &mut Vec<u8>, assay: &Assay) -> Result<(), Memory>
     ensures { OnOk result (text.new.items ≡ text.old.items ++ assay_line assay.now) }
 {
@@ -86,7 +81,7 @@ fn add_assay(text: &mut Vec<u8>, assay: &Assay) -> Result<(), Memory>
 }
 
 /// Appends the last line.
-#[tactic(auto, unfolding(assay::specs::AssayText::tally_line))]
+#[tactic(auto, unfolding(assay::specs::Assay::tally_line))]
 fn add_tally(text: &mut Vec<u8>, assays: &[Assay]) -> Result<(), Memory>
     ensures { OnOk result (text.new.items ≡ text.old.items ++ tally_line assays.now) }
 {

@@ -1,9 +1,9 @@
 // The whole program.
 ghost use Rattle.std.specs.Prelude.{map, string_bytes};
-ghost use Rattle.avida_program.specs.Changes.{TellsOf};
+ghost use Rattle.avida_program.specs.Prelude.{change};
+ghost use Rattle.avida_program.specs.Endings.{TellsOf};
 ghost use Rattle.avida_program.specs.CommandLine.{HasNumbersInRange, command_of};
 ghost use Rattle.avida_program.specs.Commands.{CarriesOut, Obeys, Serves};
-ghost use Rattle.written_texts.specs.SinkChanges.{change};
 
 use crate::Status;
 use crate::advance::advance;

@@ -1,8 +1,6 @@
 // The command `trace`.
 ghost use Rattle.std.specs.Prelude.{◌≡◌};
-ghost use Rattle.genome.specs.Genome.{letters};
-ghost use Rattle.written_texts.specs.SinkChanges.{change};
-ghost use Rattle.written_texts.specs.WrittenText.{WritesAll};
+ghost use Rattle.avida_program.specs.Prelude.{letters, change, WritesAll};
 ghost use Rattle.avida_program.specs.CommandLine.{spelling_of};
 ghost use Rattle.avida_program.specs.Endings.{ReadsAndWrites};
 ghost use Rattle.avida_program.specs.Input.{genome_of_input};

@@ -1,13 +1,8 @@
 // The lines of a trace.
 ghost use Rattle.std.specs.Prelude.{◌≡◌, ◌+◌, ◌≤◌, ◌++◌, codes};
-ghost use Rattle.std.specs.List.{flat_map};
-ghost use Rattle.arrayvec.specs.ArrayVec.{array_vec_len};
+ghost use Rattle.avida_program.specs.Prelude.{flat_map, array_vec_len, rule_name_of, remark_value, traced_value, Writes, spaced, spaced_value};
 ghost use Rattle.logic_tasks.specs.LogicTasks as tasks;
-ghost use Rattle.divide_rules.specs.RuleName.{rule_name_of};
-ghost use Rattle.organism.specs.TracedStep.{remark_value, traced_value};
-ghost use Rattle.written_texts.specs.Pieces.{Writes};
 ghost use Rattle.avida_program.specs.TraceText.{remark_text, step_text, trace_line};
-ghost use Rattle.written_texts.specs.NumberText.{spaced, spaced_value};
 
 use avida_port::{Sink, SinkStop};
 use divide_rules::Rule;

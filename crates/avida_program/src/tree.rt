@@ -1,13 +1,9 @@
 // The command `tree`.
 ghost use Rattle.std.specs.Prelude.{◌≡◌, ◌+◌, ◌++◌, ◌≤◌, flat_map};
-ghost use Rattle.arrayvec.specs.ArrayVec.{array_vec_len};
-ghost use Rattle.phylogeny.specs.TreeText.{ancestor_line, depth_line, tree_text};
-ghost use Rattle.written_texts.specs.SinkChanges.{change};
-ghost use Rattle.written_texts.specs.Pieces.{Writes};
-ghost use Rattle.written_texts.specs.WrittenText.{WritesAll};
-ghost use Rattle.avida_program.specs.TreeText.{counts_line, last_lines, lines_of_tree};
+ghost use Rattle.avida_program.specs.Prelude.{array_vec_len, ancestor_line, depth_line, tree_text, change, Writes, WritesAll};
+ghost use Rattle.avida_program.specs.Output.{counts_line, last_lines, lines_of_tree};
 ghost use Rattle.avida_program.specs.Endings.{ReadsAndWrites};
-ghost use Rattle.avida_program.specs.InputAnswers.{log_input_of};
+ghost use Rattle.avida_program.specs.Input.{log_input_of};
 
 use crate::call_error::{CallError, ended_by};
 use crate::input::read_lines;

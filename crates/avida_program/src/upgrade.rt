@@ -1,11 +1,10 @@
 // The command `upgrade`.
+ghost use Rattle.avida_program.specs.Prelude.{change, WritesAll};
 ghost use Rattle.lineage_log.specs.LogGrammar.{lines_text};
-ghost use Rattle.lineage_log.specs.LogValues.{lines_of};
-ghost use Rattle.written_texts.specs.SinkChanges.{change};
-ghost use Rattle.written_texts.specs.WrittenText.{WritesAll};
+ghost use Rattle.lineage_log.specs.Readings.{lines_of};
 ghost use Rattle.avida_program.specs.Endings.{ReadsAndWrites};
-ghost use Rattle.avida_program.specs.InputAnswers.{log_input_of};
-ghost use Rattle.avida_program.specs.ReplayText.{upgrade_text};
+ghost use Rattle.avida_program.specs.Input.{log_input_of};
+ghost use Rattle.avida_program.specs.Output.{upgrade_text};
 
 use crate::call_error::{CallError, ended_by};
 use crate::input::read_lines;

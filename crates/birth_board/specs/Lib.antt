@@ -1,3 +1,2 @@
 pub mod Torus
-pub mod Parents
 pub mod Placement

@@ -1,5 +1,6 @@
 -- The placing of newborns, one after another (docs/WORLD.md, "Placing births").
-use Rattle.std.specs.Prelude.{◌≡◌, ℕ, ◌+◌, ◌*◌, ◌<◌, ◌^◌, All, Bool, ◌==◌, ◌&&◌, nat_lt, if◌then◌else◌, List, [], ◌∷◌, ◌++◌, length, Option, None, Some, is_none, filter, count_by, fold, slice_index_or, slice_set}
+use Rattle.std.specs.Prelude.{ℕ, List, length, replicate, flat_map, slice_index_or, ◌≡◌, ◌+◌, ◌*◌, ◌<◌, ◌^◌, All, Bool, ◌==◌, ◌&&◌, nat_lt, if◌then◌else◌, [], ◌∷◌, ◌++◌, Option, None, Some, is_none, filter, count_by, fold, slice_set}
+use Rattle.std.specs.List.{range_with_len}
 use Rattle.std.specs.List.Sorted.{IsNonDecreasing}
 use Rattle.logic_tasks.specs.Inputs.{inputs_of}
 use Rattle.random_streams.specs.declared.purpose.Purpose.TheVariants.{Place}
@@ -7,6 +8,12 @@ use Rattle.random_streams.specs.RandomStream.{Stream, draw, scaled, first_of}
 use Rattle.birth_board.specs.declared.placing_round.PlacingRound.{PlacingRound}
 use Rattle.birth_board.specs.declared.placing.Placing.{Placing}
 use Rattle.birth_board.specs.Torus.{TorusNumbers, cells_of, neighbours_of}
+
+-- each cell as often as it is counted, in the order of the cells
+unfoldable pub parents_of : List ℕ → List ℕ
+parents_of counts =
+    flat_map (λ cell. replicate (slice_index_or counts cell 0) cell)
+    (range_with_len 0 (length counts))
 
 -- nothing stands in the cell
 abbrev pub is_free : List (Option ℕ) → ℕ → Bool

@@ -1,6 +1,6 @@
 ghost use Rattle.std.specs.Prelude.{◌≡◌, ◌<◌, ◌≤◌, ◌++◌, All, IfOk, OnOk, length, replicate};
 ghost use Rattle.std.specs.List.Sorted.{IsNonDecreasing};
-ghost use Rattle.birth_board.specs.Parents.{parents_of};
+ghost use Rattle.birth_board.specs.Placement.{parents_of};
 
 use avida_port::{Items, Memory};
 use std::alloc::Global;

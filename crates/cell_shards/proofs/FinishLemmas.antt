@@ -1,14 +1,7 @@
 -- Jobs that have run, in order of their numbers.
 use Rattle.std.proofs.Common.{◌≡◌, ◌∙◌, ℕ, ◌<◌, ◌++◌, [], ◌∷◌, All, List, ap, arith, get_or, inl, inr, length, length-append, slice_get, sym}
-use Rattle.std.proofs.lemmas.Bool.{cases_lt}
-use Rattle.std.proofs.lemmas.List.{get_or_append_left, get_or_at}
-use Rattle.std.proofs.lemmas.List.Elements.{All-head, All-tail}
-use Rattle.std.proofs.lemmas.Option.{same_Some, slice_get-get_or, slice_get_within}
-use Rattle.cell_shards.specs.CellLives.{RoundNumbers}
-use Rattle.cell_shards.specs.Finishing.{AreFinished, HasRun, IsFinished}
+use Rattle.cell_shards.proofs.Prelude.{cases_lt, get_or_append_left, get_or_at, All-head, All-tail, same_Some, slice_get-get_or, slice_get_within, RoundNumbers, AreFinished, HasRun, IsFinished, Finished, Job}
 use Rattle.cell_shards.specs.declared.done.Done.{Done}
-use Rattle.cell_shards.specs.declared.finished.Finished.{Finished}
-use Rattle.cell_shards.specs.declared.job.Job.{Job}
 
 -- these are the first jobs, finished
 abbrev pub AreFirst : RoundNumbers → List Job → List Finished → Type 0

@@ -1,14 +1,9 @@
 -- A seat that interns one newborn more.
 use Rattle.std.proofs.Common.{◌≡◌, ◌∙◌, ap, refl, sym, subst, arith, ℕ, zero, suc, All, List, [], ◌∷◌, ◌++◌, map, Some, slice_get, append-nil, append_assoc}
+use Rattle.cell_shards.proofs.Prelude.{map-append, All-nil, All-push, All-weaker, entry, genotypes_of, MakesCall, SeatValue, own_calls_of, NewbornValue, HasInterned, IsNumbered, birth_of, call_for, genome_in}
 use mathlib.Core.List.{IsPrefix}
-use Rattle.std.proofs.lemmas.List.{map-append}
-use Rattle.std.proofs.lemmas.List.Elements.{All-nil, All-push, All-weaker}
-use Rattle.genotype_bank.specs.BankHistory.{entry, genotypes_of}
-use Rattle.genotype_bank.specs.Seats.{MakesCall, SeatValue, own_calls_of}
 use Rattle.genotype_bank.specs.declared.view.Call.{Call}
 use Rattle.genotype_bank.specs.declared.view.Entry.{Entry}
-use Rattle.organism.specs.Newborns.{NewbornValue}
-use Rattle.cell_shards.specs.Finishing.{HasInterned, IsNumbered, birth_of, call_for, genome_in}
 use Rattle.cell_shards.specs.declared.delivered.Delivered.{Delivered}
 
 -- what stands in a list stands in each that begins with it

@@ -1,3 +1,4 @@
+pub mod Prelude
 mod ShardLemmas
 mod PartLemmas
 mod LivesLemmas

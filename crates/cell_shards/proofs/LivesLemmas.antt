@@ -1,20 +1,8 @@
 -- One more cell that has lived.
 use Rattle.std.proofs.Common.{◌≡◌, ◌∙◌, ap, sym, subst, ℕ, ◌+◌, ◌<◌, Bool, Option, None, Some, List, [], ◌∷◌, ◌++◌, length, map, drop, set, get_or, All, arith, append-nil, append_assoc}
-use Rattle.std.specs.List.{range_with_len}
-use Rattle.std.proofs.lemmas.List.{map-append, length-map, get_or_at, set_at, drop_more, drop_all}
-use Rattle.std.proofs.lemmas.List.FromFn.{length-map-range_with_len, map-range_with_len_more}
+use Rattle.cell_shards.proofs.Prelude.{range_with_len, map-append, length-map, get_or_at, set_at, drop_more, drop_all, length-map-range_with_len, map-range_with_len_more, draw, beginning, OrganismLife, ended_life, life_by, NewbornValue, OrganismState, LifeState, is_death, life, IsYoung, Part, RoundNumbers, births_from, dead_in, deaths_from, left_in, newborns_in, shard_life_at, shard_life_of, shard_lives_of, standing_in, HasInterned, IsFinished, birth_of, part_of, Finished, Job}
 use Rattle.random_streams.specs.declared.purpose.Purpose.TheVariants.{Run}
-use Rattle.random_streams.specs.RandomStream.{draw}
 use Rattle.organism.specs.declared.ran.Ran.{Ran}
-use Rattle.organism.specs.Lived.{beginning}
-use Rattle.organism.specs.Newborns.{NewbornValue}
-use Rattle.organism.specs.OrganismState.{OrganismState}
-use Rattle.organism.specs.UpdateLife.{LifeState, is_death, life}
-use Rattle.organism.specs.OrganismLife.{OrganismLife, ended_life, life_by}
-use Rattle.cell_shards.specs.CellLives.{IsYoung, Part, RoundNumbers, births_from, dead_in, deaths_from, left_in, newborns_in, shard_life_at, shard_life_of, shard_lives_of, standing_in}
-use Rattle.cell_shards.specs.Finishing.{HasInterned, IsFinished, birth_of, part_of}
-use Rattle.cell_shards.specs.declared.finished.Finished.{Finished}
-use Rattle.cell_shards.specs.declared.job.Job.{Job}
 use Rattle.cell_shards.specs.declared.standing.Standing.{Standing}
 use Rattle.cell_shards.proofs.PartLemmas.{told-push}
 

@@ -1,12 +1,7 @@
 -- Cells that lie side by side, in two parts.
 use Rattle.std.proofs.Common.{◌≡◌, ◌∙◌, ap, refl, sym, ℕ, zero, suc, ◌+◌, ◌-◌, ◌<◌, Option, None, List, [], ◌∷◌, ◌++◌, length, map, get_or, arith, add-zero, append-nil, append_assoc, length-append}
-use Rattle.std.specs.List.{range_with_len, enumerate_from, flat_map}
+use Rattle.cell_shards.proofs.Prelude.{range_with_len, enumerate_from, flat_map, get_or_append_left, get_or-append_right, length-map-range_with_len, map-range_with_len_more, OrganismState, OrganismLife, RoundNumbers, part_from, shard_life_at, shard_life_of, shard_lives_of}
 use Rattle.std.proofs.lemmas.Grind.{flat_map-append}
-use Rattle.std.proofs.lemmas.List.{get_or_append_left, get_or-append_right}
-use Rattle.std.proofs.lemmas.List.FromFn.{length-map-range_with_len, map-range_with_len_more}
-use Rattle.organism.specs.OrganismState.{OrganismState}
-use Rattle.organism.specs.OrganismLife.{OrganismLife}
-use Rattle.cell_shards.specs.CellLives.{RoundNumbers, part_from, shard_life_at, shard_life_of, shard_lives_of}
 
 -- two lists, numbered one after the other
 enumerate_from-append : {X : Type 0} (k : ℕ) (xs ys : List X)

@@ -1,15 +1,11 @@
 -- Each step on the table of a pool keeps its rule.
 use Rattle.std.proofs.Common.{◌≡◌, ◌≢◌, ◌∙◌, ℕ, zero, suc, ◌<◌, List, [], ◌∷◌, Option, Some, None, ap, arith, get_or, length, map, refl, replicate, set, slice_get, sym, ⊎_elim}
+use Rattle.cell_shards.proofs.Prelude.{get_or-set_other, get_or-set_same, length-set, length-replicate, none-some, same_Some, slice_get_within, Act, Allows, Me, Splits, State, Valid, carried_after, keeps, opening, step, stepped, takes, HasAsked, IsPool, Job}
 use mathlib.Core.Option.{none, some, some-injective, some-ne-none}
 use mathlib.Core.Logic.{dite}
 use native.Mathlib.Decide.{ℕ_discrete}
 use lib.ListN.{get_elem?}
-use Rattle.std.proofs.lemmas.List.{get_or-set_other, get_or-set_same, length-set, length-replicate}
-use Rattle.std.proofs.lemmas.Option.{none-some, same_Some, slice_get_within}
 use Rattle.atomic_table.proofs.Lists.{at_snoc, set_again, set_else}
-use Rattle.atomic_table.specs.Table.{Act, Allows, Me, Splits, State, Valid, carried_after, keeps, opening, step, stepped, takes}
-use Rattle.cell_shards.specs.Pool.{HasAsked, IsPool}
-use Rattle.cell_shards.specs.declared.job.Job.{Job}
 
 -- a job, in the slot that it lies in at first
 abbrev pub lying : Job → Option Job

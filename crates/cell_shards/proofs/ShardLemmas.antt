@@ -1,9 +1,8 @@
 -- The first cells of shards, which rise.
 use Rattle.std.proofs.Common.{◌≡◌, ℕ, zero, suc, ◌+◌, ◌*◌, ◌<◌, ◌≤◌, inl, inr, arith, add-one}
+use Rattle.cell_shards.proofs.Prelude.{cases_lt, first_cell, IsInShard}
 use Rattle.std.proofs.Math.Nat.{div-mul-le_self, mul-le-mul_left, mul-div_cancel, div-le_of_le-mul}
-use Rattle.std.proofs.lemmas.Bool.{cases_lt}
 use Rattle.std.proofs.lemmas.Nat.{le-div}
-use Rattle.cell_shards.specs.Shards.{first_cell, IsInShard}
 
 -- a later shard begins no earlier
 pub first_cell-rises : (cells workers shard later : ℕ) → 1 ≤ workers → shard ≤ later

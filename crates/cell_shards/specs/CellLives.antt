@@ -1,16 +1,37 @@
 -- The lives of cells that lie side by side (docs/WORLD.md, "The life of one update"). For example,
 -- a part whose first cell is 40 and that has three cells lives as the cells 40, 41 and 42 of the
 -- world, each with its own stream, so it is the same however the world is cut.
-use Rattle.std.specs.Prelude.{ℕ, ◌+◌, ◌<◌, ◌^◌, List, [], ◌∷◌, length, map, Option, None, Some, option_map, slice_index_or, if◌then◌else◌}
+use Rattle.std.specs.Prelude.{◌≤◌, None, Option, Some, length, ℕ, ◌+◌, ◌<◌, ◌^◌, List, [], ◌∷◌, map, option_map, slice_index_or, if◌then◌else◌}
+use Rattle.genome.specs.Genome.{letters}
+use Rattle.organism.specs.OrganismState.{OrganismState, new_organism}
+use Rattle.cell_shards.specs.declared.pending_birth.PendingBirth.{PendingBirth}
 use Rattle.std.specs.List.{range_with_len, flat_map, enumerate_from}
 use Rattle.random_streams.specs.declared.purpose.Purpose.TheVariants.{Run}
 use Rattle.random_streams.specs.RandomStream.{draw}
 use Rattle.organism.specs.Newborns.{NewbornValue}
-use Rattle.organism.specs.OrganismState.{OrganismState}
 use Rattle.organism.specs.SettingNumbers.{SettingNumbers, setting_numbers}
-use Rattle.organism.specs.OrganismLife.{OrganismLife, life_by}
+use Rattle.organism.specs.Lived.{OrganismLife, life_by}
 use Rattle.cell_shards.specs.declared.round.Round.{Round}
 use Rattle.cell_shards.specs.declared.standing.Standing.{Standing}
+
+-- the organism that begins with these values
+abbrev pub begun : PendingBirth → OrganismState
+begun p = new_organism (letters p.genome.value) p.inputs p.merit p.credited p.memory_limit
+
+-- its genome fits a machine of its limit
+pub record Fits (p : PendingBirth) : Type 0 where
+  pub genome : length (letters p.genome.value) ≤ p.memory_limit
+  pub greatest : p.memory_limit ≤ 8192
+
+-- so does that of who is to be made, if somebody is
+abbrev pub CanBeMade : Option PendingBirth → Type 0
+CanBeMade None = Unit {0}
+CanBeMade (Some p) = Fits p
+
+-- who stands there: who is to be made, or else this organism
+abbrev pub organism_once_made : OrganismState → Option PendingBirth → OrganismState
+organism_once_made o None = o
+organism_once_made o (Some p) = begun p
 
 -- what all lives of an update share, as numbers
 pub record RoundNumbers : Type 0 where

@@ -4,8 +4,7 @@
 use Rattle.std.specs.Prelude.{◌≡◌, ℕ, ◌+◌, ◌<◌, ◌≤◌, ◌^◌, ◌++◌, All, List, [], ◌∷◌, Option, Some, length, map, slice_get, slice_index_or}
 use mathlib.Core.List.{IsPrefix}
 use Rattle.genome.specs.Genome.{letters}
-use Rattle.genotype_bank.specs.BankHistory.{genotypes_of}
-use Rattle.genotype_bank.specs.Seats.{SeatValue, own_calls_of}
+use Rattle.genotype_bank.specs.BankHistory.{genotypes_of, SeatValue, own_calls_of}
 use Rattle.genotype_bank.specs.declared.view.Call.{Call}
 use Rattle.genotype_bank.specs.declared.view.Call.TheVariants.{Interned}
 use Rattle.genotype_bank.specs.declared.view.Entry.{Entry}
@@ -13,7 +12,7 @@ use Rattle.instruction_set.specs.declared.letter.Letter.{Letter}
 use Rattle.mutations.specs.BirthRecord.{record_of}
 use Rattle.organism.specs.Newborns.{NewbornValue}
 use Rattle.organism.specs.OrganismState.{OrganismState}
-use Rattle.organism.specs.OrganismLife.{OrganismLife}
+use Rattle.organism.specs.Lived.{OrganismLife}
 use Rattle.cell_shards.specs.CellLives.{IsYoung, Part, RoundNumbers, births_from, born_in, dead_in, deaths_from, left_in, part_from, shard_lives_of, standing_in}
 use Rattle.cell_shards.specs.declared.delivered.Delivered.{Delivered}
 use Rattle.cell_shards.specs.declared.done.Done.{Done}

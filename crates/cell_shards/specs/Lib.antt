@@ -2,6 +2,4 @@
 -- and what is left once all shards are done.
 pub mod Shards
 pub mod CellLives
-pub mod Bodies
 pub mod Finishing
-pub mod Pool

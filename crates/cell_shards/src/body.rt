@@ -13,7 +13,7 @@ pub(crate) struct Body {
 
 impl Body {
     ghost use Rattle.std.specs.Prelude.{◌≡◌, None, OnOk};
-    ghost use Rattle.cell_shards.specs.Bodies.{CanBeMade, organism_once_made};
+    ghost use Rattle.cell_shards.specs.CellLives.{CanBeMade, organism_once_made};
 
     /// Who is to be made is made. After `Memory` drop the body.
     pub(crate) fn make(&mut self, alloc: Global) -> Result<(), Memory>

@@ -20,7 +20,7 @@ impl Model for BoxedOrganism {
 
     ghost Value = { OrganismState };
 
-    ghost use Rattle.cell_shards.specs.Bodies.{CanBeMade, organism_once_made};
+    ghost use Rattle.cell_shards.specs.CellLives.{CanBeMade, organism_once_made};
 
     ghost view = { λ b. organism_once_made b.inner.value.organism b.inner.value.pending };
 
@@ -30,9 +30,8 @@ impl Model for BoxedOrganism {
 impl BoxedOrganism {
     ghost use Rattle.std.specs.Prelude.{◌≡◌, ◌≤◌, IfOk, length};
     ghost use Rattle.genome.specs.Genome.{letters};
-    ghost use Rattle.organism.specs.Image.{organism_of_image};
-    ghost use Rattle.organism.specs.OrganismState.{new_organism};
-    ghost use Rattle.virtual_cpu.specs.Image.{image_of};
+    ghost use Rattle.organism.specs.OrganismState.{organism_of_image, new_organism};
+    ghost use Rattle.virtual_cpu.specs.View.{image_of};
     ghost use Rattle.cell_shards.specs.CellLives.{standing_of};
 
     /// The organism moves there.

@@ -1,6 +1,6 @@
 // The genomes of newborns are interned, one after another.
 ghost use Rattle.std.specs.Prelude.{◌≡◌, IfOk, OnOk, map};
-ghost use Rattle.genotype_bank.specs.Seats.{MakesCall};
+ghost use Rattle.genotype_bank.specs.BankHistory.{MakesCall};
 ghost use Rattle.organism.specs.Newborns.{newborn_value};
 ghost use Rattle.cell_shards.specs.CellLives.{born_in};
 ghost use Rattle.cell_shards.specs.Finishing.{AreDelivered, IsNumbered, birth_of, call_for};

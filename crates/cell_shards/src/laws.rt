@@ -1,7 +1,7 @@
 // What the definitions mean for a world that is cut into shards.
 ghost use Rattle.std.specs.Prelude.{◌≡◌, ℕ, ◌+◌, ◌++◌, ◌<◌, ◌≤◌, List, Option, length};
 ghost use Rattle.organism.specs.OrganismState.{OrganismState};
-ghost use Rattle.organism.specs.OrganismLife.{OrganismLife};
+ghost use Rattle.organism.specs.Lived.{OrganismLife};
 ghost use Rattle.cell_shards.specs.CellLives.{RoundNumbers, births_from, deaths_from, part_from, shard_lives_of};
 ghost use Rattle.cell_shards.specs.Shards.{IsInShard, bounds_of};
 

@@ -2,8 +2,7 @@
 ghost use Rattle.std.specs.Prelude.{◌≡◌, ◌<◌, ◌^◌, ◌∷◌, ◌++◌, [], Some, None, OnOk, IfOk, map, if◌then◌else◌};
 ghost use Rattle.organism.specs.Newborns.{newborn_value};
 ghost use Rattle.organism.specs.UpdateLife.{is_death};
-ghost use Rattle.cell_shards.specs.Bodies.{CanBeMade, organism_once_made};
-ghost use Rattle.cell_shards.specs.CellLives.{IsYoung, round_numbers, shard_life_of, standing_in};
+ghost use Rattle.cell_shards.specs.CellLives.{CanBeMade, organism_once_made, IsYoung, round_numbers, shard_life_of, standing_in};
 ghost use Rattle.cell_shards.specs.Finishing.{CanRun, IsFinished, IsToldBehind};
 
 use crate::body::Body;
@@ -135,7 +134,7 @@ fn live_at<R: Wait>(
 }
 
 /// The life of who stands in a cell.
-#[tactic(auto, unfolding(organism::specs::OrganismLife::life_by))]
+#[tactic(auto, unfolding(organism::specs::Lived::life_by))]
 fn live_in(
     alloc: Global,
     round: &Round,

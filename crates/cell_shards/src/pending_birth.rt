@@ -17,7 +17,7 @@ pub(crate) struct PendingBirth {
 
 impl PendingBirth {
     ghost use Rattle.std.specs.Prelude.{◌≡◌, IfOk, OnOk};
-    ghost use Rattle.cell_shards.specs.Bodies.{Fits, begun};
+    ghost use Rattle.cell_shards.specs.CellLives.{Fits, begun};
 
     /// The organism, at its beginning.
     pub(crate) fn organism(&self, alloc: Global) -> Result<Organism, Memory>

@@ -13,7 +13,7 @@ use std::snapshot::Snapshot;
 pub(crate) struct PoolRule;
 
 impl TableRule<Option<Job>, LinkedList<Job>, Snapshot<Vec<Job>>> for PoolRule {
-    ghost use Rattle.cell_shards.specs.Pool.{IsPool};
+    ghost use Rattle.cell_shards.specs.Shards.{IsPool};
 
     ghost holds = { λ jobs s. IsPool jobs.value.items s };
 
@@ -24,7 +24,7 @@ impl TableRule<Option<Job>, LinkedList<Job>, Snapshot<Vec<Job>>> for PoolRule {
 pub(crate) struct Ask;
 
 impl Play<Option<Job>, LinkedList<Job>> for Ask {
-    ghost use Rattle.cell_shards.specs.Pool.{HasAsked};
+    ghost use Rattle.cell_shards.specs.Shards.{HasAsked};
 
     ghost then = { HasAsked };
 }
@@ -48,7 +48,7 @@ pub(crate) struct Pool {
 
 impl Model for Pool {
     ghost use Rattle.std.specs.Prelude.{◌≡◌, length};
-    ghost use Rattle.cell_shards.specs.Pool.{PoolValue};
+    ghost use Rattle.cell_shards.specs.Shards.{PoolValue};
 
     ghost Value = { PoolValue };
 
@@ -69,7 +69,7 @@ pub(crate) struct PoolSeat {
 }
 
 impl Model for PoolSeat {
-    ghost use Rattle.cell_shards.specs.Pool.{PoolValue};
+    ghost use Rattle.cell_shards.specs.Shards.{PoolValue};
 
     ghost Value = { PoolValue };
 

@@ -11,8 +11,7 @@ use Rattle.std.proofs.lemmas.List.Folds.{list_all_at}
 use Rattle.std.proofs.lemmas.List.MinMax.{ranks_by, IsFirstBest-from_best_of}
 use Rattle.std.proofs.lemmas.List.Sums.{list_all-from_AllPass}
 use Rattle.instruction_set.specs.Letter.{index_of}
-use Rattle.census.specs.Counts.{GenotypeCount}
-use Rattle.census.specs.Dominance.{dominance_cmp, outranks, dominant_among}
+use Rattle.census.specs.Counts.{GenotypeCount, dominance_cmp, outranks, dominant_among}
 
 -- dominance is a total order
 pub dominance-total : IsTotalOrder dominance_cmp

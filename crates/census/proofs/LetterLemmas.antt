@@ -16,7 +16,7 @@ use Rattle.instruction_set.specs.contracts.letter.LetterOrd.TheImpl as letter_or
 use Rattle.instruction_set.specs.declared.letter.Letter.{Letter}
 use Rattle.instruction_set.specs.declared.letter.Letter.TheVariants.{NopA}
 use Rattle.instruction_set.specs.Letter.{index_of}
-use Rattle.census.specs.Dominance.{letters_cmp}
+use Rattle.census.specs.Counts.{letters_cmp}
 
 -- which of the variants a value is
 place : (variants : List (List Field)) → Choice variants → ℕ

@@ -13,8 +13,7 @@ use Rattle.std.proofs.lemmas.List.Elements.{Contains-get_or}
 use Rattle.std.proofs.lemmas.List.Sums.{AllPass-from_list_all, list_all-from_AllPass}
 use Rattle.instruction_set.specs.declared.letter.Letter.{Letter}
 use Rattle.instruction_set.specs.Letter.{index_of, same_letter}
-use Rattle.census.specs.Counts.{GenotypeCount}
-use Rattle.census.specs.Dominance.{HaveSameMembers, dominance_cmp, dominant_among, letters_cmp, outranks}
+use Rattle.census.specs.Counts.{GenotypeCount, HaveSameMembers, dominance_cmp, dominant_among, letters_cmp, outranks}
 use Rattle.census.proofs.DominanceLemmas.{dominance-total}
 
 -- what is found passes and is among the elements

@@ -9,8 +9,7 @@ use Rattle.std.proofs.lemmas.List.{length-set, ext_get_or, get_or-map}
 use Rattle.std.proofs.lemmas.List.FromFn.{get_or-range_with_len}
 use Rattle.logic_tasks.specs.declared.task.Task.{Task}
 use Rattle.logic_tasks.specs.declared.task.Task.TheVariants.{Not}
-use Rattle.logic_tasks.specs.LogicTasks.{all_tasks, task_place}
-use Rattle.logic_tasks.specs.TaskSet.{has_task}
+use Rattle.logic_tasks.specs.LogicTasks.{all_tasks, task_place, has_task}
 use Rattle.census.specs.Changes.{tasks_without}
 
 -- the place of a task of the table

@@ -4,8 +4,7 @@ use Rattle.std.specs.Int.{from_bool}
 use Rattle.std.specs.Option.{option_map, unwrap_or}
 use Rattle.instruction_set.specs.declared.letter.Letter.{Letter}
 use Rattle.logic_tasks.specs.declared.task.Task.{Task}
-use Rattle.logic_tasks.specs.LogicTasks.{all_tasks, task_place}
-use Rattle.logic_tasks.specs.TaskSet.{has_task}
+use Rattle.logic_tasks.specs.LogicTasks.{all_tasks, task_place, has_task}
 use Rattle.census.specs.Counts.{GenotypeCount, Counts, genotype_at, living_of}
 
 -- how many organisms are counted under a key

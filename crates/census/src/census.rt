@@ -3,9 +3,8 @@ ghost use Rattle.std.specs.Prelude.{◌≡◌, ◌↔◌, [], IfOk, None, Ok, On
 ghost use Rattle.std.specs.Map.{values_of};
 ghost use Rattle.std.specs.Option.{option_map};
 ghost use Rattle.genome.specs.Genome.{letters};
-ghost use Rattle.census.specs.Counts.{AreGenotypes, living_of};
+ghost use Rattle.census.specs.Counts.{AreGenotypes, living_of, dominant_among, dominant_value};
 ghost use Rattle.census.specs.Changes.{CanAdd, CanRemove, CanRenew, HasOneFewer, HasOneMore, with_renewal};
-ghost use Rattle.census.specs.Dominance.{dominant_among, dominant_value};
 
 use crate::Dominant;
 use crate::genotypes::{Genotypes, dominant, lower, raise};

@@ -1,7 +1,7 @@
 // A genome and its count.
 ghost use Rattle.std.specs.Prelude.{◌≡◌, ◌+◌, ◌-◌, ◌<◌, ◌^◌, IfOk};
 ghost use Rattle.genome.specs.Genome.{letters};
-ghost use Rattle.census.specs.Dominance.{outranks, dominant_value};
+ghost use Rattle.census.specs.Counts.{outranks, dominant_value};
 
 use crate::Dominant;
 use avida_port::Memory;

@@ -4,9 +4,8 @@ ghost use Rattle.std.specs.HashMap.{values};
 ghost use Rattle.std.specs.List.{best_of};
 ghost use Rattle.std.specs.Option.{option_copied};
 ghost use Rattle.genome.specs.Genome.{letters};
-ghost use Rattle.census.specs.Counts.{GenotypeCount, AreGenotypes, genotype_at, living_of};
+ghost use Rattle.census.specs.Counts.{GenotypeCount, AreGenotypes, genotype_at, living_of, outranks, dominant_among};
 ghost use Rattle.census.specs.Changes.{genotype_with_one, genotype_without_one};
-ghost use Rattle.census.specs.Dominance.{outranks, dominant_among};
 
 use crate::genotype::Genotype;
 use avida_port::Memory;

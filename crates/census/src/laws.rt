@@ -1,7 +1,6 @@
 // What holds of every list of genotypes (docs/WORLD.md, "Statistics").
 ghost use Rattle.std.specs.Prelude.{◌≡◌, List};
-ghost use Rattle.census.specs.Counts.{GenotypeCount};
-ghost use Rattle.census.specs.Dominance.{dominant_among, HaveSameMembers};
+ghost use Rattle.census.specs.Counts.{GenotypeCount, dominant_among, HaveSameMembers};
 
 use instruction_set::laws::one_index;
 

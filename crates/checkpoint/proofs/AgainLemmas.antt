@@ -1,19 +1,8 @@
 -- Whoever may stand in a cell has lines that come in their place.
 use Rattle.std.proofs.Common.{◌≡◌, ℕ, ◌<◌, ◌≤◌, ◌*◌, ◌==◌, true, List, ◌∷◌, ◌++◌, Some, length, get_or, refl, ap, ◌∙◌, arith, length-append}
 use Rattle.std.specs.Prelude.{nat_lt, not, slice_get, if◌then◌else◌}
-use Rattle.std.proofs.lemmas.Bool.{lt-ltb, ne_eqb}
-use Rattle.std.proofs.lemmas.Bool.Decides.{nat_tests}
-use Rattle.std.proofs.lemmas.List.Sums.{list_all-from_AllPass}
-use Rattle.std.proofs.lemmas.Option.{slice_get-get_or}
+use Rattle.checkpoint.proofs.Prelude.{lt-ltb, ne_eqb, nat_tests, list_all-from_AllPass, slice_get-get_or, get_or-append_seam, image_of, machine_of_image, Machine, IsMachine, Occupant, HeadValues, OrganismValues, Placed, is_above, is_new, is_young, may_follow, may_stand, placed_of, values_in, AreSaved, MayStandThere}
 use Rattle.std.proofs.Math.ListN.{get_or-append}
-use Rattle.std.proofs.Math.Seq.{get_or-append_seam}
-use Rattle.virtual_cpu.specs.Image.{image_of, machine_of_image}
-use Rattle.virtual_cpu.specs.Machine.{Machine, IsMachine}
-use Rattle.world_rules.specs.World.{Occupant}
-use Rattle.saved_lines.specs.SavedValues.{HeadValues, OrganismValues}
-use Rattle.saved_worlds.specs.SavedGrammar.{Placed, is_above, is_new, is_young, may_follow, may_stand, placed_of}
-use Rattle.saved_worlds.specs.SavedWorldText.{values_in}
-use Rattle.saved_worlds.specs.ValidState.{AreSaved, MayStandThere}
 
 -- what stands in front of others in a list
 at_front : {X : Type 0} (xs ys : List X) (k : ℕ) (d : X) → k < length xs

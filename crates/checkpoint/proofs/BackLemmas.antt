@@ -1,27 +1,10 @@
 -- A saved world that is written is read again.
 use Rattle.std.proofs.Common.{◌≡◌, ℕ, ◌+◌, ◌*◌, ◌<◌, ◌≤◌, true, List, [], ◌∷◌, ◌++◌, Option, Some, None, Result, Ok, length, replicate, refl, sym, ap, ◌∙◌, arith, append_assoc, append-nil, length-append, eq-eqb}
-use Rattle.std.specs.List.{enumerate_from, flat_map, AllByRecursion}
 use Rattle.std.specs.Prelude.{cond, fold, is_some}
-use Rattle.std.proofs.lemmas.List.Sums.{sum_by-cons}
-use Rattle.std.proofs.Math.Seq.{set-append_seam}
-use Rattle.world_rules.specs.World.{Occupant, id_of, ids_of}
-use Rattle.virtual_cpu.specs.Image.{image_of, machine_of_image}
-use Rattle.virtual_cpu.specs.Machine.{Machine, IsMachine}
-use Rattle.lineage_log.specs.Slots.{taken}
-use Rattle.saved_lines.specs.SavedValues.{HeadValues}
-use Rattle.saved_lines.specs.SavedForms.{HasSavedForm}
-use Rattle.saved_lines.specs.SavedReading.{saved_line_of}
-use Rattle.saved_lines.specs.SavedSpelling.{OneSpelling}
+use Rattle.checkpoint.proofs.Prelude.{enumerate_from, flat_map, AllByRecursion, sum_by-cons, set-append_seam, Occupant, id_of, ids_of, image_of, machine_of_image, Machine, IsMachine, taken, HeadValues, HasSavedForm, OneSpelling, saved_line_of, SavedState, cell_text, saved_text, slot_text, values_in, SavedStop, Before, Among, Halfway, After, Placed, may_follow, may_stand, pieces_state, placed_of, saved_of, state_of_lines, told_saved_line, with_placed, AreSaved, IsWritable, cut, line_on}
 use Rattle.saved_lines.specs.SavedText.{count_text, machine_text, organism_text, saved_head_text, saved_row_text, Head, Organism, Machine as MachineLine, Count}
-use Rattle.saved_worlds.specs.SavedState.{SavedState}
-use Rattle.saved_worlds.specs.declared.saved_stop.SavedStop.{SavedStop}
-use Rattle.saved_worlds.specs.SavedGrammar.{Before, Among, Halfway, After, Placed, may_follow, may_stand, pieces_state, placed_of, saved_of, state_of_lines, told_saved_line, with_placed}
-use Rattle.saved_worlds.specs.SavedWorldText.{cell_text, saved_text, slot_text, values_in}
-use Rattle.saved_worlds.specs.ValidState.{AreSaved}
-use Rattle.checkpoint.specs.Writable.{IsWritable}
 use Rattle.checkpoint.proofs.FormLemmas.{cells_fit, machine_form, organism_form}
 use Rattle.checkpoint.proofs.AgainLemmas.{above_those, follows_again, new_to_those, placed_again, stands_again, stands_itself}
-use Rattle.saved_worlds.proofs.SavedPieces.{cut, line_on}
 use Rattle.checkpoint.proofs.WritableLemmas.{standing_from, state_saved}
 
 -- the cells of those who stand in them

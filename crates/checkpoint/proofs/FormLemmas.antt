@@ -1,17 +1,8 @@
 -- The lines of a saved world that goes on have their forms.
 use Rattle.std.proofs.Common.{◌≡◌, ℕ, ◌<◌, ◌≤◌, ◌*◌, [], length, refl, arith}
 use Rattle.std.specs.Prelude.{ℤ, FitsSigned, slice_index_or}
-use Rattle.std.specs.Int.{w32}
+use Rattle.checkpoint.proofs.Prelude.{w32, recursion_from_All, image_of, HoldsWords, Machine, IsMachine, Occupant, IsMachineLine, IsOrganismLine, HeadValues, values_in, IsHead, MayStandThere}
 use Rattle.std.proofs.Math.Nat.{mul-le-mul_left}
-use Rattle.std.proofs.lemmas.List.Elements.{recursion_from_All}
-use Rattle.virtual_cpu.specs.Image.{image_of}
-use Rattle.virtual_cpu.specs.Machine.{Machine, IsMachine}
-use Rattle.virtual_cpu.specs.Words.{HoldsWords}
-use Rattle.world_rules.specs.World.{Occupant}
-use Rattle.saved_lines.specs.SavedForms.{IsMachineLine, IsOrganismLine}
-use Rattle.saved_lines.specs.SavedValues.{HeadValues}
-use Rattle.saved_worlds.specs.SavedWorldText.{values_in}
-use Rattle.saved_worlds.specs.ValidState.{IsHead, MayStandThere}
 
 -- a world has at most 65,536 cells
 pub cells_fit : (width height : ℕ) → width ≤ 256 → height ≤ 256 → width * height ≤ 65536

@@ -1,18 +1,9 @@
 -- What is kept of the organisms that were told, with one organism more.
 use Rattle.std.proofs.Common.{◌≡◌, ℕ, zero, suc, ◌+◌, ◌≤◌, ◌==◌, Bool, true, List, [], ◌∷◌, ◌++◌, Some, length, refl, ap, arith, inl, inr}
-use Rattle.std.specs.List.{list_all}
-use Rattle.std.specs.Ordering.{nat_cmp}
 use Rattle.std.specs.Prelude.{◌⊎◌, ◌&&◌, not, nat_le, nat_lt, slice_get}
-use Rattle.std.specs.BTreeSet.{BTreeSet, contains, Updates}
+use Rattle.checkpoint.proofs.Prelude.{list_all, nat_cmp, BTreeSet, contains, Updates, nat_tests, All-append, All-cons, AllPass-from_list_all, get_or_from_slice_get, slice_get_within, HeadValues, Placed, is_above, is_new, AreSaved, MayStandThere}
 use Rattle.std.specs.BTreeMap.{is_at}
-use Rattle.std.proofs.lemmas.Bool.Decides.{nat_tests}
-use Rattle.std.proofs.lemmas.List.Elements.{All-append, All-cons}
 use Rattle.std.proofs.lemmas.List.Folds.{list_all-append}
-use Rattle.std.proofs.lemmas.List.Sums.{AllPass-from_list_all}
-use Rattle.std.proofs.lemmas.Option.{get_or_from_slice_get, slice_get_within}
-use Rattle.saved_lines.specs.SavedValues.{HeadValues}
-use Rattle.saved_worlds.specs.SavedGrammar.{Placed, is_above, is_new}
-use Rattle.saved_worlds.specs.ValidState.{AreSaved, MayStandThere}
 
 -- a key is at another exactly where they are one number
 pub at_key : (a b : ℕ) → is_at (nat_cmp a) b ≡ (a == b)

@@ -1,3 +1,4 @@
+pub mod Prelude
 pub mod KeptLemmas
 pub mod StandsLemmas
 pub mod ReadLemmas

@@ -1,17 +1,8 @@
 -- The text of cells, and of one cell more.
 use Rattle.std.proofs.Common.{◌≡◌, ℕ, zero, suc, ◌+◌, ◌<◌, List, [], ◌∷◌, ◌++◌, Option, None, length, take, refl, sym, ap, ◌∙◌, arith, append_assoc, add-zero, zero-add}
+use Rattle.checkpoint.proofs.Prelude.{enumerate_from, flat_map, append-nil, take-length, Occupant, ids_of, SavedState, cell_text, saved_text, slot_text, count_text, saved_head_text, taken, first_cells_text}
 use Rattle.std.proofs.Math.Numerals.{add-one}
-use Rattle.std.specs.List.{enumerate_from, flat_map}
 use Rattle.std.specs.Prelude.{slice_index_or}
-use Rattle.std.proofs.lemmas.List.{append-nil}
-use Rattle.std.proofs.Math.Seq.{take-length}
-use Rattle.world_rules.specs.World.{Occupant}
-use Rattle.saved_worlds.specs.SavedState.{SavedState}
-use Rattle.saved_worlds.specs.SavedWorldText.{cell_text, saved_text, slot_text}
-use Rattle.saved_lines.specs.SavedText.{count_text, saved_head_text}
-use Rattle.lineage_log.specs.Slots.{taken}
-use Rattle.world_rules.specs.World.{ids_of}
-use Rattle.checkpoint.specs.Parts.{first_cells_text}
 
 -- the text of some first cells, counted from a number
 abbrev text_from : ℕ → List (Option Occupant) → ℕ → List ℕ

@@ -1,13 +1,8 @@
 -- The loop over the pieces of a saved world.
 use Rattle.std.proofs.Common.{◌≡◌, ℕ, ◌+◌, List, ◌∷◌, Option, Some, Result, Bor, ◌∙◌}
+use Rattle.checkpoint.proofs.Prelude.{saved_line_of, SavedState, SavedPlace, one_saved_piece, pieces_state, SavedStop, cut, more_pieces, IsFaultOf}
 use Rattle.std.specs.Option.{option_copied}
 use Rattle.log_lines.specs.Words.{pieces_of}
-use Rattle.saved_lines.specs.SavedReading.{saved_line_of}
-use Rattle.saved_worlds.specs.SavedState.{SavedState}
-use Rattle.saved_worlds.specs.SavedGrammar.{SavedPlace, one_saved_piece, pieces_state}
-use Rattle.saved_worlds.specs.declared.saved_stop.SavedStop.{SavedStop}
-use Rattle.saved_worlds.proofs.SavedPieces.{cut, more_pieces}
-use Rattle.checkpoint.specs.Reading.{IsFaultOf}
 
 module _ (number : ℕ) (place : SavedPlace) (left piece : List ℕ) (others : Option (Bor (List ℕ)))
     (split : cut left ≡ piece ∷ pieces_of 10 (option_copied others)) where

@@ -1,18 +1,8 @@
 -- A saved world that is read can be written.
 use Rattle.std.proofs.Common.{◌≡◌, ℕ, ◌+◌, ◌==◌, Bool, true, false, List, [], ◌∷◌, ◌++◌, length, Option, Some, None, Result, Ok, refl, subst}
-use Rattle.std.proofs.lemmas.List.Elements.{All-from_recursion}
-use Rattle.std.specs.List.{slice_split}
-use Rattle.virtual_cpu.specs.declared.cpu_image.CpuImage.{CpuImage}
+use Rattle.checkpoint.proofs.Prelude.{All-from_recursion, slice_split, CpuImage, HasSavedForm, IsMachineLine, IsOrganismLine, saved_line_of, SavedLine, Head, Organism, Count, HeadValues, OrganismValues, SavedPlace, Before, Among, Halfway, After, Placed, after_saved_line, may_follow, may_stand, one_saved_piece, pieces_state, placed_of, saved_of, state_of_lines, told_saved_line, SavedState, SavedStop, AreSaved, IsHead, MayStandThere, IsWritable}
 use Rattle.log_lines.specs.Fields.{given}
-use Rattle.saved_lines.specs.SavedForms.{HasSavedForm, IsMachineLine, IsOrganismLine}
-use Rattle.saved_lines.specs.SavedReading.{saved_line_of}
-use Rattle.saved_lines.specs.SavedText.{SavedLine, Head, Organism, Machine, Count}
-use Rattle.saved_lines.specs.SavedValues.{HeadValues, OrganismValues}
-use Rattle.saved_worlds.specs.SavedGrammar.{SavedPlace, Before, Among, Halfway, After, Placed, after_saved_line, may_follow, may_stand, one_saved_piece, pieces_state, placed_of, saved_of, state_of_lines, told_saved_line}
-use Rattle.saved_worlds.specs.SavedState.{SavedState}
-use Rattle.saved_worlds.specs.declared.saved_stop.SavedStop.{SavedStop}
-use Rattle.saved_worlds.specs.ValidState.{AreSaved, IsHead, MayStandThere}
-use Rattle.checkpoint.specs.Writable.{IsWritable}
+use Rattle.saved_lines.specs.SavedText.{Machine}
 use Rattle.checkpoint.proofs.KeptLemmas.{saved_more}
 use Rattle.checkpoint.proofs.StandsLemmas.{follows_by_rules, may_stand_there, stands_by_rules}
 

@@ -1,17 +1,7 @@
 -- What was told, at its start and with one organism more.
 use Rattle.std.proofs.Common.{◌≡◌, ℕ, ◌+◌, ◌≤◌, true, List, [], ◌∷◌, ◌++◌, map, sym, ap, ◌∙◌}
-use Rattle.std.specs.Ordering.{nat_cmp}
-use Rattle.std.specs.BTreeSet.{BTreeSet, Updates}
-use Rattle.std.proofs.lemmas.Bool.{leb-true}
-use Rattle.std.proofs.lemmas.List.{map-append}
-use Rattle.virtual_cpu.specs.declared.cpu_image.CpuImage.{CpuImage}
-use Rattle.saved_lines.specs.declared.resident.Resident.{Resident}
+use Rattle.checkpoint.proofs.Prelude.{nat_cmp, BTreeSet, Updates, leb-true, map-append, CpuImage, Resident, IsMachineLine, IsOrganismLine, OrganismValues, head_values, organism_values, Placed, may_follow, may_stand, placed_of, placed_in, SoFarValue, IsKept, so_far_of}
 use Rattle.saved_lines.specs.declared.state_head.StateHead.{StateHead}
-use Rattle.saved_lines.specs.SavedForms.{IsMachineLine, IsOrganismLine}
-use Rattle.saved_lines.specs.SavedValues.{OrganismValues, head_values, organism_values}
-use Rattle.saved_worlds.specs.SavedGrammar.{Placed, may_follow, may_stand, placed_of}
-use Rattle.saved_worlds.specs.ValidState.{placed_in}
-use Rattle.checkpoint.specs.SoFarValue.{SoFarValue, IsKept, so_far_of}
 use Rattle.checkpoint.proofs.KeptLemmas.{above_more, new_more, saved_more}
 use Rattle.checkpoint.proofs.StandsLemmas.{follows_by_rules, may_stand_there, stands_by_rules}
 

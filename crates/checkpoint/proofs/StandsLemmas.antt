@@ -1,20 +1,7 @@
 -- The organism of two lines that may come may stand in its cell.
 use Rattle.std.proofs.Common.{◌≡◌, ℕ, ℤ, ◌<◌, ◌≤◌, ◌*◌, true, List, [], ◌∷◌, length, refl, arith, pos}
-use Rattle.std.specs.List.{AllByRecursion}
 use Rattle.std.specs.Prelude.{All, ◌^◌, nat_lt, if◌then◌else◌, FitsSigned}
-use Rattle.std.specs.Int.{w32}
-use Rattle.std.proofs.lemmas.Bool.{and_parts, ltb-true}
-use Rattle.std.proofs.lemmas.Bool.Decides.{nat_tests}
-use Rattle.std.proofs.lemmas.List.Elements.{All-cons, All-from_recursion}
-use Rattle.std.proofs.lemmas.List.Sums.{AllPass-from_list_all}
-use Rattle.virtual_cpu.specs.declared.cpu_image.CpuImage.{CpuImage}
-use Rattle.virtual_cpu.specs.Image.{machine_of_image}
-use Rattle.virtual_cpu.specs.Machine.{IsMachine}
-use Rattle.virtual_cpu.specs.Words.{HoldsWords}
-use Rattle.saved_lines.specs.SavedForms.{IsMachineLine, IsOrganismLine}
-use Rattle.saved_lines.specs.SavedValues.{HeadValues, OrganismValues}
-use Rattle.saved_worlds.specs.SavedGrammar.{Placed, are_within, is_above, is_new, is_young, may_follow, may_stand, placed_of}
-use Rattle.saved_worlds.specs.ValidState.{IsHead, MayStandThere}
+use Rattle.checkpoint.proofs.Prelude.{AllByRecursion, w32, and_parts, ltb-true, nat_tests, All-cons, All-from_recursion, AllPass-from_list_all, CpuImage, machine_of_image, HoldsWords, IsMachine, IsMachineLine, IsOrganismLine, HeadValues, OrganismValues, Placed, are_within, is_above, is_new, is_young, may_follow, may_stand, placed_of, IsHead, MayStandThere}
 
 -- what each rule of an organism's line says
 pub record Stands (head : HeadValues) (placed : List Placed) (o : OrganismValues) : Type 0 where

@@ -1,17 +1,9 @@
 -- What stands in a state that can be written may stand in a saved world.
 use Rattle.std.proofs.Common.{◌≡◌, ◌∙◌, refl, sym, ap, subst, ℕ, zero, suc, ◌+◌, ◌*◌, ◌<◌, ◌^◌, List, [], ◌∷◌, Option, Some, None, arith, ◌≢◌}
 use Rattle.std.specs.Prelude.{slice_get}
-use Rattle.std.specs.List.{AllByRecursion}
-use Rattle.std.proofs.lemmas.List.{length-replicate}
-use Rattle.std.proofs.lemmas.List.Elements.{All-from_recursion}
-use Rattle.std.proofs.lemmas.Option.{slice_get_within}
-use Rattle.world_rules.specs.World.{Occupant}
+use Rattle.checkpoint.proofs.Prelude.{AllByRecursion, length-replicate, All-from_recursion, slice_get_within, Occupant, Placed, SavedState, AreSaved, MayStandThere, IsWritable}
 use Rattle.saved_worlds.specs.Resuming.{forgotten}
-use Rattle.saved_worlds.specs.SavedGrammar.{Placed}
-use Rattle.saved_worlds.specs.SavedState.{SavedState}
-use Rattle.saved_worlds.specs.ValidState.{AreSaved, MayStandThere}
 use Rattle.saved_worlds.proofs.Valid.{head_up}
-use Rattle.checkpoint.specs.Writable.{IsWritable}
 
 -- who stands in some cells, of which the first has this number
 abbrev pub standing_from : ℕ → List (Option Occupant) → List Placed

@@ -1,8 +1,6 @@
 // An organism of which the first of its two lines was read.
 ghost use Rattle.std.specs.Prelude.{IsTrue};
-ghost use Rattle.saved_lines.specs.SavedForms.{IsOrganismLine};
-ghost use Rattle.saved_lines.specs.SavedLines.{values_of_organism};
-ghost use Rattle.saved_worlds.specs.SavedGrammar.{may_stand};
+ghost use Rattle.checkpoint.specs.Prelude.{IsOrganismLine, values_of_organism, may_stand};
 
 use crate::so_far::SoFar;
 use saved_lines::OrganismLine;

@@ -1,17 +1,10 @@
 // The parts of a saved world's text (docs/FORMATS.md, "Saved worlds").
 ghost use Rattle.std.specs.Prelude.{◌≡◌, ℕ, ◌+◌, ◌<◌, ◌≤◌, ◌++◌, List, [], None, Ok, Option, length, slice_index_or};
-ghost use Rattle.lineage_log.specs.Slots.{taken};
+ghost use Rattle.checkpoint.specs.Prelude.{taken, Occupant, ids_of, count_text, saved_head_text, SavedState, state_of, state_of_world, saved_text, slot_text, saved_of, FitsText, HasRoomFor};
 ghost use Rattle.world_config.specs.Shown.{values_of};
-ghost use Rattle.world_rules.specs.World.{Occupant, ids_of};
 ghost use Rattle.world_rules.specs.WorldRun.{world_after};
-ghost use Rattle.saved_lines.specs.SavedText.{count_text, saved_head_text};
-ghost use Rattle.saved_worlds.specs.SavedState.{SavedState, state_of, state_of_world};
 ghost use Rattle.saved_worlds.specs.Resuming.{saved_state_after};
-ghost use Rattle.saved_worlds.specs.SavedGrammar.{saved_of};
-ghost use Rattle.saved_worlds.specs.SavedWorldText.{saved_text, slot_text};
-ghost use Rattle.saved_worlds.specs.ValidState.{FitsText, HasRoomFor};
-ghost use Rattle.checkpoint.specs.Parts.{first_cells_text};
-ghost use Rattle.checkpoint.specs.Writable.{IsWritable};
+ghost use Rattle.checkpoint.specs.Reading.{first_cells_text, IsWritable};
 
 use saved_lines::laws::one_spelling;
 use saved_worlds::laws::{lines_can_go_on, runs_can_go_on, states_stay_valid};

@@ -1,9 +1,7 @@
 // Where the reader of a saved world stands between two lines.
 ghost use Rattle.std.specs.Prelude.{◌≡◌, IfOk, option_map};
-ghost use Rattle.saved_lines.specs.SavedForms.{HasSavedForm};
-ghost use Rattle.saved_lines.specs.SavedLines.{values_of_line, values_of_organism};
-ghost use Rattle.saved_worlds.specs.SavedGrammar.{Among, Before, Halfway, told_saved_line};
-ghost use Rattle.checkpoint.specs.Places.{saved_place_of};
+ghost use Rattle.checkpoint.specs.Prelude.{HasSavedForm, values_of_line, values_of_organism, Among, Before, Halfway, told_saved_line};
+ghost use Rattle.checkpoint.specs.Reading.{saved_place_of};
 
 use crate::half::Half;
 use crate::so_far::SoFar;

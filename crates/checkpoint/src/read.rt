@@ -1,9 +1,8 @@
 // Reads a saved world.
 ghost use Rattle.std.specs.Prelude.{◌≡◌, ◌≤◌, IfErr, IfOk, Ok};
+ghost use Rattle.checkpoint.specs.Prelude.{last_saved_piece, saved_of};
 ghost use Rattle.saved_lines.specs.SavedReading.{saved_line_of};
-ghost use Rattle.saved_worlds.specs.SavedGrammar.{last_saved_piece, saved_of};
-ghost use Rattle.checkpoint.specs.Places.{saved_place_of};
-ghost use Rattle.checkpoint.specs.Reading.{Ends, IsFaultOf, Steps};
+ghost use Rattle.checkpoint.specs.Reading.{saved_place_of, Ends, IsFaultOf, Steps};
 
 use crate::place::{ReadPlace, told_saved_line};
 use crate::so_far::SoFar;

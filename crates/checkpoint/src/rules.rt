@@ -1,8 +1,6 @@
 // The rules that the lines of one organism keep.
 ghost use Rattle.std.specs.Prelude.{◌≡◌, ◌*◌, ◌^◌, ◌&&◌, ◌==◌, if◌then◌else◌, length, nat_le, nat_lt};
-ghost use Rattle.saved_lines.specs.SavedLines.{values_of_organism};
-ghost use Rattle.saved_lines.specs.SavedValues.{head_values};
-ghost use Rattle.saved_worlds.specs.SavedGrammar.{are_within, is_young, may_follow};
+ghost use Rattle.checkpoint.specs.Prelude.{values_of_organism, head_values, are_within, is_young, may_follow};
 
 use saved_lines::{OrganismLine, StateHead};
 use virtual_cpu::CpuImage;

@@ -1,10 +1,6 @@
 // What the lines of a saved world have told so far.
 ghost use Rattle.std.specs.Prelude.{◌≡◌, ◌∷◌, ◌++◌, ◌*◌, ◌&&◌, ◌≤◌, [], IfOk, IsTrue, length, nat_lt};
-ghost use Rattle.saved_lines.specs.SavedForms.{IsMachineLine, IsOrganismLine};
-ghost use Rattle.saved_lines.specs.SavedLines.{values_of_organism};
-ghost use Rattle.saved_lines.specs.SavedValues.{head_values, organism_values};
-ghost use Rattle.saved_worlds.specs.SavedGrammar.{is_above, is_new, may_follow, may_stand, placed_of, state_of_lines};
-ghost use Rattle.saved_worlds.specs.ValidState.{IsHead};
+ghost use Rattle.checkpoint.specs.Prelude.{IsMachineLine, IsOrganismLine, values_of_organism, head_values, organism_values, is_above, is_new, may_follow, may_stand, placed_of, state_of_lines, IsHead};
 
 use crate::rules::{has_age, has_length, has_merit, may_follow};
 use avida_port::Memory;
@@ -29,7 +25,7 @@ pub(crate) struct SoFar {
 }
 
 impl Model for SoFar {
-    ghost use Rattle.checkpoint.specs.SoFarValue.{IsKept, SoFarValue, so_far_of};
+    ghost use Rattle.checkpoint.specs.Reading.{IsKept, SoFarValue, so_far_of};
 
     ghost Value = { SoFarValue };
 

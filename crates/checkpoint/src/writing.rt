@@ -1,9 +1,7 @@
 // Writes a saved world, part by part.
 ghost use Rattle.std.specs.Prelude.{◌≡◌, ◌*◌, ◌<◌, ◌++◌, None, OnErr, OnOk, slice_index_or};
-ghost use Rattle.lineage_log.specs.Slots.{taken};
+ghost use Rattle.checkpoint.specs.Prelude.{taken, slot_text, ids_of};
 ghost use Rattle.saved_lines.specs.SavedText as text;
-ghost use Rattle.saved_worlds.specs.SavedWorldText.{slot_text};
-ghost use Rattle.world_rules.specs.World.{ids_of};
 
 use avida_port::Memory;
 use saved_lines::{write_count, write_head, write_resident};

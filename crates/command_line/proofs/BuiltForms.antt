@@ -1,10 +1,6 @@
 -- What the parser makes of the command of a form.
 use Rattle.std.proofs.Common.{◌≡◌, ◌∙◌, ◌+◌, ◌≤◌, arith, refl, ap, ℕ, min, List, [], ◌∷◌, ◌++◌, map, length, Option, Some, None}
-use Rattle.clap.specs.Lexer.{usize_max}
-use Rattle.clap.specs.Walk.{Rule, Text}
-use Rattle.clap.specs.Simple.{built, filled, filled_from}
-use Rattle.command_line.specs.Form.{Form, IsSimple, Valued}
-use Rattle.command_line.specs.Parsers.{app_by, flag_rule, option_rule, positional_rule}
+use Rattle.command_line.proofs.Prelude.{usize_max, Rule, Text, built, filled, filled_from, Form, IsSimple, Valued, app_by, flag_rule, option_rule, positional_rule}
 use Rattle.command_line.proofs.Uses.{flag_filled}
 use Rattle.command_line.proofs.FormRules.{option_filled, positional_filled, positionals_from, rules_by}
 use Rattle.command_line.proofs.RuleReading.{shape_by}

@@ -1,21 +1,11 @@
 -- Each command reads what its form says: its names are distinct, and a text that begins with `-` is
 -- none of its numbers.
 use Rattle.std.proofs.Common.{◌≡◌, ◌<◌, ◌+◌, ◌||◌, ◌++◌, arith, refl, ap, inl, inr, Bool, true, ℕ, suc, take, List, [], ◌∷◌, length, Option, Some, None, codes, option_map, option_and_then}
-use Rattle.std.specs.List.{before_first, list_any, position_or_len}
-use Rattle.std.proofs.lemmas.Bool.{cases_Bool, eqb-true}
-use Rattle.std.proofs.lemmas.Grind.{common_steps}
+use Rattle.command_line.proofs.Prelude.{before_first, list_any, position_or_len, cases_Bool, eqb-true, common_steps, usize_max, Text, Told, are_distinct, option_names, is_comma, three_numbers_of, begins_dashed, has_dashed, is_dashed, app_by, IsOf, IsReadableRow, NoMinus, CommandRow, assay_row, landscape_row, nothing_row, positional_row, run_row, save_row, trace_row}
 use Rattle.numerals.specs.Numeral.{number_of}
-use Rattle.clap.specs.Lexer.{usize_max}
-use Rattle.clap.specs.Walk.{Text}
 use Rattle.clap.specs.Simple.{is_simple}
 use Rattle.clap.specs.Faults.{is_simple_and_free}
-use Rattle.command_line.specs.Form.{Told, are_distinct, option_names}
-use Rattle.command_line.specs.Words.{begins_dashed, has_dashed, is_dashed}
-use Rattle.command_line.specs.Numbers.{is_comma, three_numbers_of}
 use Rattle.command_line.specs.Commands.{assay_of, assay_with, positional_form, positional_number_at, positional_of, run_of, run_with, trace_of, workers_at, workers_form}
-use Rattle.command_line.specs.Parsers.{app_by}
-use Rattle.command_line.specs.Reading.{IsOf, IsReadableRow, NoMinus}
-use Rattle.command_line.specs.Rows.{CommandRow, assay_row, landscape_row, nothing_row, positional_row, run_row, save_row, trace_row}
 use Rattle.command_line.specs.declared.trace.Trace.{Trace}
 
 -- a command that takes no words has no text that could begin with `-`

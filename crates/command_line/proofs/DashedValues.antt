@@ -1,19 +1,7 @@
 -- A value that begins with `-` stays to the end, where it is refused.
 use Rattle.std.proofs.Common.{arith, ◌≡◌, ◌∙◌, ◌+◌, ◌||◌, refl, sym, ap, inl, inr, min, Bool, true, false, is_some, List, [], ◌∷◌, ◌++◌, map, fold, length, Option, Some, None, option_and_then, codes}
 use Rattle.std.specs.Prelude.{if◌then◌else◌}
-use Rattle.std.specs.Option.{option_or}
-use Rattle.std.specs.List.{list_any}
-use Rattle.std.proofs.lemmas.Bool.{cases_Bool}
-use Rattle.std.proofs.lemmas.Grind.{common_steps}
-use Rattle.std.proofs.lemmas.List.{length-map}
-use Rattle.std.proofs.lemmas.List.Folds.{list_any-append}
-use Rattle.clap.specs.Lexer.{usize_max}
-use Rattle.clap.specs.Walk.{Row, Rule, Text, arg_by_index, arg_by_long, takes_values, with_default}
-use Rattle.clap.specs.Kinds.{Kinds}
-use Rattle.command_line.specs.Form.{Form, IsSimple, Told, Valued, has_name, option_names}
-use Rattle.command_line.specs.Words.{begins_dashed, has_dashed, is_dashed}
-use Rattle.command_line.specs.Parsers.{all_of, told_in}
-use Rattle.command_line.specs.Reading.{IsOf}
+use Rattle.command_line.proofs.Prelude.{option_or, list_any, cases_Bool, common_steps, length-map, list_any-append, usize_max, Row, Rule, Text, arg_by_index, arg_by_long, takes_values, with_default, Kinds, Form, IsSimple, Told, Valued, has_name, option_names, begins_dashed, has_dashed, is_dashed, all_of, told_in, IsOf}
 use Rattle.command_line.proofs.Names.{bytes_same, same_text}
 use Rattle.command_line.proofs.Uses.{Use, rows_by, use_of, value_in}
 use Rattle.command_line.proofs.UseLists.{seen, value_kept, value_new}

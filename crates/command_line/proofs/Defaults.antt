@@ -1,16 +1,7 @@
 -- The matches with the defaults of what does not stand.
 use Rattle.std.proofs.Common.{◌≡◌, arith, ◌∙◌, refl, ap, inl, inr, Bool, true, false, is_some, List, [], ◌∷◌, ◌++◌, fold, Option, Some, None}
 use Rattle.std.specs.Prelude.{if◌then◌else◌, slice_get}
-use Rattle.std.specs.Option.{option_or, option_to_list}
-use Rattle.std.specs.List.{list_all}
-use Rattle.std.specs.Str.{bytes_eq}
-use Rattle.std.proofs.lemmas.Bool.{cases_Bool}
-use Rattle.std.proofs.lemmas.Grind.{common_steps}
-use Rattle.clap.specs.Walk.{Row, Rule, Text, default_rows, reading_by, with_default}
-use Rattle.clap.specs.Takes.{is_given}
-use Rattle.clap.specs.Facts.{explicit_source}
-use Rattle.clap.specs.Faults.{default_fault, defaults_fault}
-use Rattle.clap.specs.declared.parser.matches.ValueSource.TheVariants.{DefaultValue}
+use Rattle.command_line.proofs.Prelude.{option_or, option_to_list, list_all, bytes_eq, cases_Bool, common_steps, Row, Rule, Text, default_rows, reading_by, with_default, is_given, explicit_source, default_fault, defaults_fault, DefaultValue}
 use Rattle.command_line.proofs.Names.{same_text}
 use Rattle.command_line.proofs.Uses.{Use, appended, row_is, rows_by, value_in}
 use Rattle.command_line.proofs.UseLists.{value_new, value_other}

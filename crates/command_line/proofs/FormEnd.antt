@@ -1,19 +1,9 @@
 -- The end of the words, by the parser's rules of a form and by the form.
 use Rattle.std.proofs.Common.{◌≡◌, ◌∙◌, ◌+◌, ◌&&◌, ◌<◌, ◌==◌, arith, refl, ap, ℕ, Bool, true, false, not, is_some, is_none, List, [], ◌∷◌, map, fold, zip, length, slice_get, Option, Some, None, option_map, option_and_then, codes}
 use Rattle.std.specs.Prelude.{if◌then◌else◌}
-use Rattle.std.specs.Option.{option_or, option_to_list}
-use Rattle.std.specs.List.{list_any}
-use Rattle.std.specs.Str.{bytes_eq}
-use Rattle.std.proofs.lemmas.Bool.{or_right}
-use Rattle.std.proofs.lemmas.Grind.{common_steps}
+use Rattle.command_line.proofs.Prelude.{option_or, option_to_list, list_any, bytes_eq, or_right, common_steps, Row, Rule, Text, first_of, with_default, is_given, defaults_fault, Form, IsSimple, Told, Valued, are_distinct, has_name, option_names, told_with_defaults, all_of, is_given_true, told_in}
 use Rattle.std.proofs.lemmas.Bool.Decides.{nat_tests}
-use Rattle.clap.specs.Walk.{Row, Rule, Text, first_of, with_default}
-use Rattle.clap.specs.Takes.{is_given}
-use Rattle.clap.specs.Faults.{defaults_fault}
 use Rattle.clap.specs.declared.error.kind.ErrorKind.TheVariants as kind
-use Rattle.command_line.specs.Form.{Form, IsSimple, Told, Valued, are_distinct, has_name, option_names}
-use Rattle.command_line.specs.Words.{told_with_defaults}
-use Rattle.command_line.specs.Parsers.{all_of, is_given_true, told_in}
 use Rattle.command_line.proofs.Names.{bytes_same, bytes_turned, head_apart}
 use Rattle.command_line.proofs.Uses.{Use, first_is, rows_by, value_in}
 use Rattle.command_line.proofs.UseLists.{seen}

@@ -1,14 +1,7 @@
 -- What the parser makes of words is what they tell, for every form.
 use Rattle.std.proofs.Common.{◌≡◌, drop, ◌∙◌, ◌<◌, arith, refl, sym, ap, true, List, [], ◌∷◌, length, Option, None, option_and_then}
-use Rattle.clap.specs.Walk.{Row, Text, nothing_held, rows_after}
-use Rattle.clap.specs.Kinds.{Kinds}
-use Rattle.clap.specs.declared.error.kind.ErrorKind.{ErrorKind}
-use Rattle.clap.specs.Simple.{App, built, matches_of, names_of}
-use Rattle.clap.specs.Faults.{built_fault, fault_of}
+use Rattle.command_line.proofs.Prelude.{Row, Text, nothing_held, rows_after, Kinds, ErrorKind, App, built, matches_of, names_of, built_fault, fault_of, Form, IsSimple, Told, has_dashed, told_by, undashed, IsOf}
 use Rattle.clap.proofs.FaultLemmas.{leaf_fault}
-use Rattle.command_line.specs.Form.{Form, IsSimple, Told}
-use Rattle.command_line.specs.Words.{has_dashed, told_by, undashed}
-use Rattle.command_line.specs.Reading.{IsOf}
 use Rattle.command_line.specs.Parsers.{app_by, parsed_by, told_in, unless_fault as told_unless_fault}
 use Rattle.command_line.proofs.FormRules.{looks, rules_by}
 use Rattle.command_line.proofs.RuleReading.{shape_by, unless_fault}

@@ -1,13 +1,7 @@
 -- Where a word stands in a form: the place of an option or a flag, and of the next positional.
 use Rattle.std.proofs.Common.{◌≡◌, ◌∙◌, ◌+◌, ◌<◌, ◌≤◌, arith, refl, sym, ap, ℕ, zero, suc, min, Bool, true, false, is_some, List, [], ◌∷◌, ◌++◌, map, length, position, slice_get, length-append, nat_lt, Option, Some, None, option_map}
-use Rattle.std.specs.Option.{option_map_or}
-use Rattle.std.specs.Str.{bytes_eq}
-use Rattle.std.proofs.lemmas.Grind.{common_steps}
-use Rattle.std.proofs.lemmas.Option.{slice_get-map, slice_get_within}
-use Rattle.clap.specs.Lexer.{usize_max}
-use Rattle.clap.specs.Walk.{Text, arg_by_index}
-use Rattle.command_line.specs.Form.{Form, IsSimple, option_names}
-use Rattle.command_line.specs.Words.{is_given, is_set}
+use Rattle.command_line.proofs.Prelude.{option_map_or, bytes_eq, common_steps, slice_get-map, slice_get_within, usize_max, Text, arg_by_index, Form, IsSimple, option_names, is_set}
+use Rattle.command_line.specs.Words.{is_given}
 use Rattle.command_line.proofs.Names.{place_by_map, place_of, position_is}
 use Rattle.command_line.proofs.Uses.{Use, set_use, value_in}
 use Rattle.command_line.proofs.UseLists.{seen, seen_at}

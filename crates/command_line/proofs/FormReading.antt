@@ -1,14 +1,7 @@
 -- What words tell by the parser's rules of a form is what they tell by the form, where no value
 -- begins with `-`.
 use Rattle.std.proofs.Common.{◌≡◌, ◌∙◌, ◌+◌, ◌&&◌, ◌<◌, ◌≤◌, arith, refl, sym, ap, ℕ, zero, suc, Bool, true, false, is_some, List, [], ◌∷◌, ◌++◌, map, length, slice_get, slice_set, length-append, Option, Some, None, codes}
-use Rattle.std.proofs.lemmas.Grind.{common_steps}
-use Rattle.std.proofs.lemmas.List.Folds.{list_all-append}
-use Rattle.std.proofs.lemmas.List.{map-set}
-use Rattle.std.proofs.lemmas.Option.{slice_get_within}
-use Rattle.clap.specs.Facts.{explicit_source}
-use Rattle.clap.specs.Walk.{Rule, Text}
-use Rattle.command_line.specs.Form.{Form, IsSimple, are_distinct, has_name, option_names}
-use Rattle.command_line.specs.Words.{Given}
+use Rattle.command_line.proofs.Prelude.{common_steps, list_all-append, map-set, slice_get_within, explicit_source, Rule, Text, Form, IsSimple, are_distinct, has_name, option_names, Given}
 use Rattle.command_line.proofs.Names.{bytes_same, head_apart, same_text, place_of, placed_has}
 use Rattle.command_line.proofs.Uses.{Use, flag_filled, set_use, use_of, value_in}
 use Rattle.command_line.proofs.UseLists.{seen, seen_kept, seen_set}

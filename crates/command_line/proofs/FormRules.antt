@@ -1,13 +1,6 @@
 -- The rules of a form as the parser builds them, and what it finds by them.
 use Rattle.std.proofs.Common.{◌≡◌, ◌∙◌, ◌+◌, ◌||◌, ◌<◌, arith, refl, sym, subst, ap, inl, inr, ℕ, zero, suc, true, false, List, [], ◌∷◌, ◌++◌, map, slice_get, Option, Some, None, option_map}
-use Rattle.std.specs.Option.{option_to_list}
-use Rattle.std.specs.Str.{bytes_eq}
-use Rattle.std.proofs.lemmas.Bool.{cases_Bool, false≢true, or_parts}
-use Rattle.std.proofs.lemmas.Grind.{common_steps}
-use Rattle.std.proofs.Math.Bool.{or-true}
-use Rattle.std.proofs.lemmas.List.Folds.{list_any-append}
-use Rattle.clap.specs.Walk.{Rule, Text, arg_by_id, arg_by_index, arg_by_long, arg_by_short}
-use Rattle.command_line.specs.Form.{Form, IsSimple, Valued, are_distinct, has_name, option_names}
+use Rattle.command_line.proofs.Prelude.{option_to_list, bytes_eq, cases_Bool, false≢true, or_parts, common_steps, or-true, list_any-append, Rule, Text, arg_by_id, arg_by_index, arg_by_long, arg_by_short, Form, IsSimple, Valued, are_distinct, has_name, option_names}
 use Rattle.command_line.proofs.Names.{Parted, apart_back, bytes_same, head_apart, parted, place_of, placed_has, same_text}
 use Rattle.command_line.proofs.Uses.{flag_filled, value_rule}
 use Rattle.command_line.proofs.Defaults.{AllPlain, Plain, plain_append}

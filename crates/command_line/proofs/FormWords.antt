@@ -2,16 +2,7 @@
 -- begins with `-` is refused.
 use Rattle.std.proofs.Common.{◌≡◌, ◌∙◌, ◌+◌, arith, refl, sym, ap, ℕ, Bool, true, false, is_some, List, [], ◌∷◌, ◌++◌, map, length, slice_get, slice_set, Option, Some, None, option_and_then, codes}
 use Rattle.std.specs.Prelude.{if◌then◌else◌}
-use Rattle.std.specs.Str.{bytes_eq}
-use Rattle.std.proofs.lemmas.Grind.{common_steps}
-use Rattle.std.proofs.Math.Bool.{or-true}
-use Rattle.std.proofs.lemmas.List.Folds.{list_any-append}
-use Rattle.std.proofs.lemmas.Option.{slice_get_within}
-use Rattle.clap.specs.Walk.{Row, Rule, Text, arg_by_index, arg_by_long}
-use Rattle.command_line.specs.Form.{Form, IsSimple, Told, Valued, has_name, option_names}
-use Rattle.command_line.specs.Words.{Given, as_word, begins_dashed, has_dashed, kind_of_word, names, next_where, read_from, told_by, value_or_wait, with_flag, with_option, with_option_value, with_positional}
-use Rattle.command_line.specs.Parsers.{told_in}
-use Rattle.command_line.specs.Reading.{IsOf}
+use Rattle.command_line.proofs.Prelude.{bytes_eq, common_steps, or-true, list_any-append, slice_get_within, Row, Rule, Text, arg_by_index, arg_by_long, Form, IsSimple, Told, Valued, has_name, option_names, Given, as_word, begins_dashed, has_dashed, kind_of_word, names, next_where, read_from, told_by, value_or_wait, with_flag, with_option, with_option_value, with_positional, told_in, IsOf}
 use Rattle.command_line.proofs.Names.{place_of, placed_has}
 use Rattle.command_line.proofs.Uses.{Use, flag_filled, set_use, use_of, value_in}
 use Rattle.command_line.proofs.UseLists.{seen}

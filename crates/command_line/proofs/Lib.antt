@@ -1,3 +1,4 @@
+pub mod Prelude
 pub mod WordViews
 pub mod Names
 pub mod Uses

@@ -1,13 +1,8 @@
 -- Names in a list: where one stands first, and lists with no name twice.
 use Rattle.std.proofs.Common.{◌≡◌, ◌∙◌, arith, refl, sym, inl, inr, ℕ, suc, Bool, true, false, List, [], ◌∷◌, ◌++◌, map, position, Option, Some, None, option_map}
 use Rattle.std.specs.Prelude.{if◌then◌else◌}
-use Rattle.std.specs.Str.{bytes_eq}
-use Rattle.std.proofs.lemmas.Bool.{cases_Bool, false≢true, or_parts}
-use Rattle.std.proofs.lemmas.Grind.{common_steps}
-use Rattle.std.proofs.lemmas.List.Folds.{list_any-append}
+use Rattle.command_line.proofs.Prelude.{bytes_eq, cases_Bool, false≢true, or_parts, common_steps, list_any-append, Text, are_distinct, has_name}
 use Rattle.std.proofs.lemmas.Slice.Eq.{bytes_eq-Decides}
-use Rattle.clap.specs.Walk.{Text}
-use Rattle.command_line.specs.Form.{are_distinct, has_name}
 
 -- texts that pass the test are the same
 pub same_text : (x y : Text) → bytes_eq x y ≡ true → x ≡ y

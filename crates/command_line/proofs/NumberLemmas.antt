@@ -1,10 +1,8 @@
 -- What stands behind the first comma of a text.
 use Rattle.std.proofs.Common.{◌≡◌, ◌<◌, ◌+◌, ℕ, List, [], Option, None, Some, length, arith}
 use Rattle.std.specs.Prelude.{MatchOption}
-use Rattle.std.specs.List.{after_first, before_first, position_or_len}
-use Rattle.std.proofs.lemmas.List.{drop_all}
+use Rattle.command_line.proofs.Prelude.{after_first, before_first, position_or_len, drop_all, is_comma}
 use denote.Ref.{Bor}
-use Rattle.command_line.specs.Numbers.{is_comma}
 
 -- the clause of `split_once` at a comma
 pub cut_so : (text : List ℕ) (cut : Option (Bor (List ℕ) × Bor (List ℕ)))

@@ -1,18 +1,6 @@
 -- What the parser makes of the words of a command is what they tell by its form.
 use Rattle.std.proofs.Common.{◌≡◌, ◌∙◌, ◌<◌, refl, sym, subst, ap, List, [], ◌∷◌, length, drop, Option, Some, None, Result, MatchResult, option_and_then, String, map, string_bytes}
-use Rattle.std.proofs.lemmas.List.{length-map}
-use Rattle.std.specs.Option.{ok_or}
-use Rattle.clap.specs.Walk.{Row, Text}
-use Rattle.clap.specs.Simple.{App, matches_of}
-use Rattle.clap.specs.Faults.{fault_of}
-use Rattle.clap.specs.Kinds.{Kinds}
-use Rattle.clap.specs.declared.error.kind.ErrorKind.{ErrorKind}
-use Rattle.command_line.specs.Parsers.{app_by, told_in}
-use Rattle.command_line.specs.Reading.{IsReadableRow, NoMinus}
-use Rattle.command_line.specs.Rows.{CommandRow, told_by_row}
-use Rattle.command_line.specs.Refusals.{IsRefusedBy, IsTold, Refuses}
-use Rattle.command_line.specs.declared.refused.Refused.{Refused}
-use Rattle.command_line.specs.declared.refused.Refused.TheVariants.{Memory, BadWords}
+use Rattle.command_line.proofs.Prelude.{length-map, ok_or, Row, Text, App, matches_of, fault_of, Kinds, ErrorKind, app_by, told_in, IsReadableRow, NoMinus, IsRefusedBy, IsTold, Refuses, CommandRow, told_by_row, Refused, Memory, BadWords}
 use Rattle.command_line.proofs.FormLaw.{form_fits, form_stops}
 
 -- a refusal for a fault, where words with a fault tell nothing

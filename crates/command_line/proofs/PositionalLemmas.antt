@@ -1,7 +1,7 @@
 -- What holds of a value that may be missing, as a result.
 use Rattle.std.proofs.Common.{◌≡◌, Option, None, Some, Result}
 use Rattle.std.specs.Prelude.{IfOk, IfSome}
-use Rattle.std.specs.Option.{ok_or}
+use Rattle.command_line.proofs.Prelude.{ok_or}
 
 -- what holds of a value holds of it as a result
 pub if_ok : {T E : Type 0} (P : T → Type 0) (o : Option T) (e : E) (r : Result T E)

@@ -1,7 +1,7 @@
 -- What the parser finds of arguments with one value and of flags, in a command with no short
 -- options.
 use Rattle.std.proofs.Common.{◌≡◌, ℕ, Bool, List, Option, Some, None}
-use Rattle.clap.specs.Walk.{Rule, Text, arg_by_id, arg_by_index, arg_by_long, arg_by_short}
+use Rattle.command_line.proofs.Prelude.{Rule, Text, arg_by_id, arg_by_index, arg_by_long, arg_by_short}
 use Rattle.command_line.proofs.Uses.{flag_filled, value_rule}
 
 -- an argument with one value that was found

@@ -1,10 +1,6 @@
 -- The words read from left to right by the parser's rules, a step between the parser and the form.
 use Rattle.std.specs.Prelude.{ℕ, ◌+◌, min, Bool, true, false, is_some, if◌then◌else◌, List, [], ◌∷◌, codes, fold, Option, Some, None, option_and_then}
-use Rattle.clap.specs.Walk.{Row, Rule, Text, arg_by_index, arg_by_long, takes_values, with_default}
-use Rattle.clap.specs.Lexer.{usize_max}
-use Rattle.clap.specs.Simple.{Shape, new_shape}
-use Rattle.clap.specs.Kinds.{Kinds, or_else}
-use Rattle.clap.specs.Faults.{check_fault, defaults_fault}
+use Rattle.command_line.proofs.Prelude.{Row, Rule, Text, arg_by_index, arg_by_long, takes_values, with_default, usize_max, Shape, new_shape, Kinds, or_else, check_fault, defaults_fault}
 use Rattle.command_line.proofs.Uses.{Use, rows_by, set_use, value_in}
 use Rattle.command_line.proofs.WordViews.{View, view, ending, long, short, torn, dash, clean}
 

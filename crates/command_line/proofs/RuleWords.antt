@@ -1,13 +1,8 @@
 -- What the parser makes of words is what they tell by its rules.
 use Rattle.std.proofs.Common.{◌≡◌, ◌∙◌, refl, sym, inl, inr, ℕ, ◌+◌, Bool, true, false, is_some, List, [], ◌∷◌, Option, Some, None, codes, min}
 use Rattle.std.specs.Prelude.{option_and_then, if◌then◌else◌}
-use Rattle.std.specs.Str.{bytes_eq}
-use Rattle.std.proofs.lemmas.Bool.{cases_Bool}
-use Rattle.std.proofs.Math.Bool.{or-false}
-use Rattle.clap.specs.Lexer.{long_of, usize_max}
-use Rattle.clap.specs.Walk.{Row, Rule, Text, idle, walked, walk_from, nothing_held, value, word_met, has_row, bundle_met, arg_by_id, arg_by_long, arg_by_index}
+use Rattle.command_line.proofs.Prelude.{bytes_eq, cases_Bool, or-false, long_of, usize_max, Row, Rule, Text, idle, walked, walk_from, nothing_held, value, word_met, has_row, bundle_met, arg_by_id, arg_by_long, arg_by_index, flags_fault, walk_fault, word_fault}
 use Rattle.clap.specs.declared.error.kind.ErrorKind.TheVariants as kind
-use Rattle.clap.specs.Faults.{flags_fault, walk_fault, word_fault}
 use Rattle.command_line.proofs.Uses.{Use, flag_filled, row_is, rows_by, set_use, used_flag, used_value, value_in, value_rule}
 use Rattle.command_line.proofs.RuleLooks.{Known, Looks, OneValue, flag, no_flag, unknown, valued}
 use Rattle.command_line.proofs.RuleReading.{Stand, as_named, as_positional, as_seen, read_seen, stand}

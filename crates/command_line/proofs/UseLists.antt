@@ -1,10 +1,6 @@
 -- What the uses give for each of a list of names.
 use Rattle.std.proofs.Common.{◌≡◌, ◌∙◌, arith, refl, ap, ℕ, zero, suc, true, false, is_some, List, [], ◌∷◌, ◌++◌, map, slice_get, slice_set, Option, Some}
-use Rattle.std.specs.Str.{bytes_eq}
-use Rattle.std.proofs.lemmas.Grind.{common_steps}
-use Rattle.std.proofs.lemmas.Bool.{or_parts}
-use Rattle.clap.specs.Walk.{Text}
-use Rattle.command_line.specs.Form.{are_distinct, has_name}
+use Rattle.command_line.proofs.Prelude.{bytes_eq, common_steps, or_parts, Text, are_distinct, has_name}
 use Rattle.command_line.proofs.Names.{bytes_same, bytes_turned, head_apart, place_of, same_text}
 use Rattle.command_line.proofs.Uses.{Use, value_in}
 

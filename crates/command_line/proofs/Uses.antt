@@ -1,14 +1,11 @@
 -- What stands for an argument, and the parser's rows of it.
 use Rattle.std.proofs.Common.{◌≡◌, arith, refl, ap, Bool, true, false, is_some, List, [], ◌∷◌, ◌++◌, map, Option, Some, None, codes}
 use Rattle.std.specs.Prelude.{ℕ, if◌then◌else◌}
-use Rattle.std.specs.Str.{bytes_eq}
-use Rattle.std.proofs.lemmas.Grind.{common_steps}
-use Rattle.clap.specs.Walk.{Row, Rule, Text, first_of, has_row, reading_by, used, with_values, without}
+use Rattle.command_line.proofs.Prelude.{bytes_eq, common_steps, Row, Rule, Text, first_of, has_row, reading_by, used, with_values, without, CommandLine}
 use Rattle.clap.specs.declared.builder.action.ArgAction.TheVariants.{Set, SetTrue}
 use Rattle.clap.specs.declared.builder.value_parser.ValueParser.TheVariants as vp
 use Rattle.clap.specs.declared.builder.value_parser.Reading.{Reading}
 use Rattle.clap.specs.declared.parser.matches.ValueSource.{ValueSource}
-use Rattle.clap.specs.declared.parser.matches.ValueSource.TheVariants.{CommandLine}
 
 -- an argument with one value
 abbrev pub value_rule : Text → Option Text → Option ℕ → List Text → Bool → Rule

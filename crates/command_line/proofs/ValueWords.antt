@@ -1,13 +1,8 @@
 -- What words make of an argument with one value that waits for it, or whose value isn't used yet.
 use Rattle.std.proofs.Common.{◌≡◌, ◌∙◌, refl, sym, inl, inr, ℕ, Bool, true, false, is_some, List, [], ◌∷◌, Option, Some, None}
 use Rattle.std.specs.Prelude.{option_and_then, if◌then◌else◌}
-use Rattle.std.specs.Str.{bytes_eq}
-use Rattle.std.proofs.lemmas.Bool.{cases_Bool}
-use Rattle.std.proofs.Math.Bool.{and-false}
-use Rattle.clap.specs.Lexer.{long_of}
-use Rattle.clap.specs.Walk.{Row, Rule, Text, Walk, idle, walked, settled_rows, Held, value, word_met, has_row, bundle_met, arg_by_id, arg_by_long, arg_by_index}
+use Rattle.command_line.proofs.Prelude.{bytes_eq, cases_Bool, and-false, long_of, Row, Rule, Text, Walk, idle, walked, settled_rows, Held, value, word_met, has_row, bundle_met, arg_by_id, arg_by_long, arg_by_index, flags_fault, settle_fault, turn_fault, walk_fault, word_fault}
 use Rattle.clap.specs.declared.error.kind.ErrorKind.TheVariants as kind
-use Rattle.clap.specs.Faults.{flags_fault, settle_fault, turn_fault, walk_fault, word_fault}
 use Rattle.command_line.proofs.Uses.{Use, row_is, rows_by, set_use, used_value, value_in, value_rule}
 use Rattle.command_line.proofs.RuleLooks.{Known, Looks, OneValue, flag, no_flag, unknown, valued}
 use Rattle.command_line.proofs.RuleReading.{Stand, as_value, read_seen, stand, with_use}

@@ -1,11 +1,7 @@
 -- The parser's walk over words, a word at a time.
 use Rattle.std.proofs.Common.{◌≡◌, ◌∙◌, refl, sym, ap, ℕ, Bool, false, List, [], ◌∷◌, Option, Some, None}
 use Rattle.std.specs.Prelude.{fold}
-use Rattle.clap.specs.Walk.{Row, Rule, Text, Waiting, Walk, idle, option, walked, finished, settled}
-use Rattle.clap.specs.Simple.{Shape}
-use Rattle.clap.specs.declared.error.kind.ErrorKind.{ErrorKind}
-use Rattle.clap.specs.Kinds.{Kinds, or_else}
-use Rattle.clap.specs.Faults.{check_fault, defaults_fault, settle_fault, turn_fault, walk_fault}
+use Rattle.command_line.proofs.Prelude.{Row, Rule, Text, Waiting, Walk, idle, option, walked, finished, settled, Shape, ErrorKind, Kinds, or_else, check_fault, defaults_fault, settle_fault, turn_fault, walk_fault}
 use Rattle.command_line.proofs.Uses.{Use, rows_by}
 use Rattle.command_line.proofs.RuleReading.{stand, read_seen, shape_by, unless_fault}
 

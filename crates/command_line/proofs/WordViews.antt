@@ -1,11 +1,7 @@
 -- What a word looks like to the parser.
 use Rattle.std.proofs.Common.{◌≡◌, refl, inl, inr, ℕ, ◌==◌, true, false, [], ◌∷◌, Option, Some, None}
 use Rattle.std.specs.Prelude.{slice_get}
-use Rattle.std.specs.Str.{bytes_eq, chars}
-use Rattle.std.proofs.lemmas.Bool.{cases_Bool}
-use Rattle.clap.specs.Lexer.{long_of, short_of, name_and_value}
-use Rattle.clap.specs.Walk.{Text}
-use Rattle.command_line.specs.Words.{begins_dashed}
+use Rattle.command_line.proofs.Prelude.{bytes_eq, chars, cases_Bool, long_of, short_of, name_and_value, Text, begins_dashed}
 
 -- a word: `--`, one with a long or a short name, one torn after `-`, `-` alone, or one without `-`
 pub data View (word : Text) : Type 0 where

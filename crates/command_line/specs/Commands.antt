@@ -1,8 +1,7 @@
 -- The forms of the commands, and their numbers (docs/FORMATS.md, "The command line").
 use Rattle.std.specs.Prelude.{ℕ, List, [], ◌∷◌, Option, Some, None, codes, option_and_then, option_map, slice_get}
-use Rattle.command_line.specs.Form.{Form, Told, Valued}
+use Rattle.command_line.specs.Form.{Form, Told, Valued, three_numbers_of}
 use Rattle.command_line.specs.Words.{is_set, told_by}
-use Rattle.command_line.specs.Numbers.{three_numbers_of}
 use Rattle.numerals.specs.Numeral.{number_of}
 use Rattle.command_line.specs.declared.assay.Assay.{Assay}
 use Rattle.command_line.specs.declared.positional.Bench.{Bench}

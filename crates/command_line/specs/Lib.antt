@@ -1,9 +1,7 @@
 pub mod Form
 pub mod Words
-pub mod Numbers
 pub mod Commands
 pub mod Rows
-pub mod Refusals
-pub mod Parsers
 pub mod Reading
+pub mod Parsers
 pub use Rattle.clap.specs.Lexer.{long_of}

@@ -3,7 +3,7 @@ ghost use Rattle.std.specs.Prelude.{◌≡◌, ◌≤◌, [], IfSome, MatchOptio
 ghost use Rattle.std.specs.List.{after_first, before_first};
 ghost use Rattle.clap.specs.Words.{first_of, found_of, rows_of};
 ghost use Rattle.numerals.specs.Numeral.{number_of};
-ghost use Rattle.command_line.specs.Numbers.{is_comma, three_numbers_of};
+ghost use Rattle.command_line.specs.Form.{is_comma, three_numbers_of};
 
 use clap::ArgMatches;
 use numerals::laws::one_spelling;

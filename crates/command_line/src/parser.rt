@@ -1,7 +1,7 @@
 // What `clap` makes of words.
 ghost use Rattle.std.specs.Prelude.{◌≡◌, [], true, MatchResult, map, string_bytes};
 ghost use Rattle.clap.specs.Words.{app_of, found_of, rows_of, fault_of, matches_of, is_simple, is_simple_and_free};
-ghost use Rattle.command_line.specs.Refusals.{IsRefusedBy};
+ghost use Rattle.command_line.specs.Reading.{IsRefusedBy};
 
 use crate::refused::{Refused, refused_by};
 use clap::{ArgMatches, Command};

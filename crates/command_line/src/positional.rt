@@ -1,11 +1,9 @@
 // The words of the commands with one number and `--workers`.
 ghost use Rattle.std.specs.Prelude.{◌≡◌, ◌<◌, ◌≤◌, ◌∷◌, [], IfOk, IfSome, length, option_and_then};
 ghost use Rattle.clap.specs.Words.{found_of, rows_of};
-ghost use Rattle.command_line.specs.Commands.{bench_told, further_updates_told, lineage_told};
-ghost use Rattle.command_line.specs.Commands.{positional_form, positional_of};
+ghost use Rattle.command_line.specs.Commands.{bench_told, further_updates_told, lineage_told, positional_form, positional_of};
 ghost use Rattle.command_line.specs.Parsers.{told_in};
-ghost use Rattle.command_line.specs.Reading.{IsReadableRow};
-ghost use Rattle.command_line.specs.Refusals.{IsTold};
+ghost use Rattle.command_line.specs.Reading.{IsReadableRow, IsTold};
 ghost use Rattle.command_line.specs.Rows.{positional_row, told_by_row};
 
 use crate::numbers::wide_number_in;

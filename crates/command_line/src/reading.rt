@@ -3,8 +3,7 @@
 ghost use Rattle.std.specs.Prelude.{◌≡◌, ◌<◌, length, IfOk, option_and_then};
 ghost use Rattle.clap.specs.Words.{app_of, found_of, rows_of};
 ghost use Rattle.command_line.specs.Parsers.{app_by, told_in};
-ghost use Rattle.command_line.specs.Reading.{IsReadableRow};
-ghost use Rattle.command_line.specs.Refusals.{IsTold};
+ghost use Rattle.command_line.specs.Reading.{IsReadableRow, IsTold};
 ghost use Rattle.command_line.specs.Rows.{CommandRow, told_by_row};
 
 use crate::parser::matches;

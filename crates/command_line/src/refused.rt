@@ -1,6 +1,6 @@
 // Why words give no command.
 ghost use Rattle.std.specs.Prelude.{◌≡◌};
-ghost use Rattle.command_line.specs.Refusals.{refused_by};
+ghost use Rattle.command_line.specs.Reading.{refused_by};
 
 use clap::error::ErrorKind;
 

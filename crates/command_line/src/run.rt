@@ -1,7 +1,7 @@
 // The words of `run`.
 ghost use Rattle.std.specs.Prelude.{◌≡◌, ◌<◌, length, option_map};
 ghost use Rattle.command_line.specs.Commands.{run_with};
-ghost use Rattle.command_line.specs.Refusals.{IsTold};
+ghost use Rattle.command_line.specs.Reading.{IsTold};
 ghost use Rattle.command_line.specs.Rows.{run_row, told_by_row};
 
 use crate::numbers::{spelled, text_in};

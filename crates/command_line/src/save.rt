@@ -1,6 +1,6 @@
 // The words of `save`.
 ghost use Rattle.std.specs.Prelude.{◌<◌, length};
-ghost use Rattle.command_line.specs.Refusals.{IsTold};
+ghost use Rattle.command_line.specs.Reading.{IsTold};
 ghost use Rattle.command_line.specs.Rows.{save_row, told_by_row};
 
 use crate::reading::{Arguments, read};

@@ -2,7 +2,7 @@
 ghost use Rattle.std.specs.Prelude.{◌≡◌, ◌<◌, [], IfOk, codes, length};
 ghost use Rattle.clap.specs.Words.{app_of};
 ghost use Rattle.command_line.specs.Parsers.{app_by};
-ghost use Rattle.command_line.specs.Refusals.{IsTold};
+ghost use Rattle.command_line.specs.Reading.{IsTold};
 ghost use Rattle.command_line.specs.Rows.{trace_row, told_by_row};
 
 use crate::numbers::{number_in, text_in, three_numbers};

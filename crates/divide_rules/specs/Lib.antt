@@ -1,3 +1,2 @@
-pub mod RuleName
 pub mod Rules
 pub mod Viability

@@ -1,7 +1,10 @@
--- The rules of a divide as numbers (docs/MACHINE.md, "The rules of a divide").
-use Rattle.std.specs.Prelude.{ℕ, ◌≤◌, Bool}
+-- The rules of a divide as numbers, and how one is printed (docs/MACHINE.md, "The rules of a
+-- divide"; docs/FORMATS.md, "Trace lines").
+use Rattle.std.specs.Prelude.{ℕ, ◌≤◌, Bool, List, codes}
 use Rattle.genome.specs.Lengths.{shortest_genome, longest_genome}
 use Rattle.divide_rules.specs.declared.limits.DivideRules.{DivideRules}
+use Rattle.divide_rules.specs.declared.rule.Rule.{Rule}
+use Rattle.divide_rules.specs.declared.rule.Rule.TheVariants.{V1, V2, V3, V4, V5, V6}
 
 -- least and greatest length of a part, percentages asked for, whether an allocation is needed
 pub record RuleNumbers : Type 0 where
@@ -30,3 +33,12 @@ pub record AreRules (rules : RuleNumbers) : Type 0 where
   pub executed_is_percent : rules.executed_percent ≤ 100
   pub copied_is_asked : 1 ≤ rules.copied_percent
   pub copied_is_percent : rules.copied_percent ≤ 100
+
+-- the printed name of a rule
+abbrev pub rule_name_of : Rule → List ℕ
+rule_name_of V1 = codes "V1"
+rule_name_of V2 = codes "V2"
+rule_name_of V3 = codes "V3"
+rule_name_of V4 = codes "V4"
+rule_name_of V5 = codes "V5"
+rule_name_of V6 = codes "V6"

@@ -1,6 +1,6 @@
 // The six rules, by number.
 ghost use Rattle.std.specs.Prelude.{◌≡◌};
-ghost use Rattle.divide_rules.specs.RuleName.{rule_name_of};
+ghost use Rattle.divide_rules.specs.Rules.{rule_name_of};
 
 /// A rule of a divide, in the order in which they are tried.
 #[derive(Clone, Copy, Debug, PartialEq, Eq)]

@@ -1,11 +1,7 @@
 -- All cells live as an update starts, and nothing else happens.
 use Rattle.std.proofs.Common.{◌≡◌, ℕ, zero, suc, ◌+◌, ◌<◌, ◌≤◌, false, length, Some, refl, sym, ap, arith, add-zero}
 use Rattle.std.specs.Prelude.{IsSome, IsNone}
-use Rattle.world_config.specs.Values.{ConfigValues}
-use Rattle.world_rules.specs.World.{World}
-use Rattle.event_orders.specs.declared.schedule.ScheduleEvent.TheVariants.{Run}
-use Rattle.event_orders.specs.State.{State, life_in}
-use Rattle.event_orders.specs.Schedule.{state_after_event}
+use Rattle.event_orders.proofs.Prelude.{ConfigValues, World, Run, State, life_in, state_after_event}
 use Rattle.event_orders.proofs.Results.{AreLives, result_kept}
 use Rattle.event_orders.proofs.Going.{at_either, Any, Goes, goes_one, goes_on, goes_none}
 

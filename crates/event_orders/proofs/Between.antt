@@ -1,22 +1,8 @@
 -- What holds between the events of a schedule.
 use Rattle.std.proofs.Common.{◌≡◌, ℕ, zero, suc, ◌+◌, ◌<◌, ◌≤◌, true≢false, cond, List, [], ◌∷◌, ◌++◌, length, get_or, take, Some, Contains, refl, sym, ap, ◌∙◌, inl, arith, add-one, add-zero, zero-add}
 use Rattle.std.specs.Prelude.{◌↔◌, slice_get, count_by}
-use Rattle.std.proofs.lemmas.List.{take_more}
-use Rattle.std.proofs.lemmas.List.Sums.{fold_push, sum_by-append}
-use Rattle.std.proofs.lemmas.Option.{slice_get_within, get_or_from_slice_get, slice_get-get_or}
-use Rattle.genome.specs.Genomes.{different_of}
-use Rattle.genotype_bank.specs.BankHistory.{genomes_of, genotypes_of, HasEachOnce}
-use Rattle.instruction_set.specs.declared.letter.Letter.{Letter}
-use Rattle.world_config.specs.Values.{ConfigValues}
-use Rattle.world_rules.specs.World.{World, first_world}
-use Rattle.world_rules.specs.Lives.{lives_of}
-use Rattle.world_rules.specs.Update.{scene_of_lives, world_of, next_scene, next_world}
-use Rattle.world_rules.specs.WorldRun.{world_after}
-use Rattle.event_orders.specs.declared.schedule.ScheduleEvent.{ScheduleEvent}
-use Rattle.event_orders.specs.declared.schedule.ScheduleEvent.TheVariants.{Run, Intern, Gather, Publish, Look, Hear}
-use Rattle.event_orders.specs.State.{State, opening}
-use Rattle.event_orders.specs.Schedule.{MayGather, IsLawful, with_seen, state_after_event, state_after, IsSchedule}
-use Rattle.event_orders.specs.Orders.{is_gather, ShowsEachUpdate}
+use Rattle.event_orders.proofs.Prelude.{take_more, fold_push, sum_by-append, slice_get_within, get_or_from_slice_get, slice_get-get_or, genomes_of, genotypes_of, HasEachOnce, Letter, ConfigValues, World, first_world, lives_of, scene_of_lives, world_of, next_scene, next_world, world_after, ScheduleEvent, Run, Intern, Gather, Publish, Look, Hear, State, opening, MayGather, IsLawful, with_seen, state_after_event, state_after, IsSchedule, is_gather, ShowsEachUpdate}
+use Rattle.genome.specs.Genome.{different_of}
 use Rattle.event_orders.proofs.Everyone.{genomes_ever}
 use Rattle.event_orders.proofs.Results.{lives_in, AreLives, result_kept, results_are_lives}
 use Rattle.event_orders.proofs.Banked.{IsBanked, intern_banked, gather_members}

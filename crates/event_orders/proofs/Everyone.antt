@@ -1,24 +1,14 @@
 -- The genomes of all organisms that were ever in a world, through an update.
 use Rattle.std.proofs.Common.{◌≡◌, ◌∙◌, refl, sym, ap, ℕ, zero, suc, ◌+◌, List, [], ◌∷◌, ◌++◌, length, map, fold, Option, None, Some, arith, append_assoc, append-nil, add-one}
-use Rattle.std.specs.List.{AllByRecursion, zip, flat_map, filter_map, cons_option, enumerate_from, range_with_len}
+use Rattle.event_orders.proofs.Prelude.{AllByRecursion, zip, flat_map, filter_map, cons_option, enumerate_from, range_with_len, map-append, length-map, map-map, Letter, ConfigValues, Occupant, World, founder_of, founder_link, first_world, ids_of, Scene, next_id, with_death, cells_from, with_newcomer, CellLife, life_of, life_at, slice_at, Delivery, delivery_of, births_by, births_in, births_of, deaths_of, after_lives, after_burials, placings_of, birth_link, child_of_birth, with_newborn, after_births, after_what, after_event, events_at, after_events, last_scene, scene_of_lives, world_of, lives_after, next_scene, next_world, world_after, newborn_genomes, injected_by, injections_at}
 use Rattle.std.specs.Option.{option_to_list}
-use Rattle.std.proofs.lemmas.List.{map-append, length-map}
-use mathlib.Core.List.{map-map}
 use Rattle.birth_board.specs.declared.placing.Placing.{Placing}
 use Rattle.birth_board.proofs.PlacementLemmas.{placements_number}
-use Rattle.instruction_set.specs.declared.letter.Letter.{Letter}
-use Rattle.lineage_log.specs.Links.{Link}
+use Rattle.lineage_log.specs.Ancestry.{Link}
 use Rattle.organism.specs.OrganismState.{OrganismState}
-use Rattle.organism.specs.OrganismLife.{life_by}
+use Rattle.organism.specs.Lived.{life_by}
 use Rattle.world_config.specs.Events.{EventValue, WhatValue, inject, clear, rate}
-use Rattle.world_config.specs.Values.{ConfigValues}
-use Rattle.world_rules.specs.World.{Occupant, World, founder_of, founder_link, first_world, ids_of}
 use Rattle.world_rules.specs.Settings.{torus_of, placing_round_at}
-use Rattle.world_rules.specs.Lives.{CellLife, life_of, life_at, slice_at}
-use Rattle.world_rules.specs.Scene.{Scene, next_id, with_death, cells_from, with_newcomer}
-use Rattle.world_rules.specs.Update.{Delivery, delivery_of, births_by, births_in, births_of, deaths_of, after_lives, after_burials, placings_of, birth_link, child_of_birth, with_newborn, after_births, after_what, after_event, events_at, after_events, last_scene, scene_of_lives, world_of, lives_after, next_scene, next_world}
-use Rattle.world_rules.specs.WorldRun.{world_after}
-use Rattle.event_orders.specs.State.{newborn_genomes, injected_by, injections_at}
 
 -- the genomes of these organisms at birth
 abbrev pub genomes_ever : List Link → List (List Letter)

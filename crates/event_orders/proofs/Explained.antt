@@ -1,13 +1,7 @@
 -- Lawful events have the calls that the seats have still to make, in any order of the seats.
 use Rattle.std.proofs.Common.{◌≡◌, ◌≢◌, ℕ, List, [], ◌∷◌, ◌++◌, map, refl, sym, ◌∙◌, append_assoc, append-nil, inl, inr, ap, arith, length}
 use Rattle.std.specs.Prelude.{◌==◌, filter}
-use Rattle.std.proofs.lemmas.Bool.{eq-eqb, ne_eqb}
-use Rattle.std.proofs.lemmas.List.{length-map}
-use Rattle.genotype_bank.specs.declared.view.Entry.{Entry}
-use Rattle.world_config.specs.Values.{ConfigValues}
-use Rattle.event_orders.specs.declared.schedule.ScheduleEvent.TheVariants.{Intern}
-use Rattle.event_orders.specs.State.{State, genome_entry}
-use Rattle.event_orders.specs.Schedule.{with_value_at, MayGather, state_after_event}
+use Rattle.event_orders.proofs.Prelude.{eq-eqb, ne_eqb, length-map, Entry, ConfigValues, Intern, State, genome_entry, with_value_at, MayGather, state_after_event}
 use Rattle.event_orders.proofs.Going.{at_either, Any, Goes, goes_one, goes_on, goes_none}
 use Rattle.event_orders.proofs.Pairs.{Pair}
 use Rattle.event_orders.proofs.LeftPairs.{Left, head_in, left_next, newborn}
@@ -71,6 +65,6 @@ module _ (config : ConfigValues) where
             goes_on config Any s s1 go.0 0 0 (goes_one config Any s (Intern x.seat p.0 p.1)
                 v tt) go.1,
             rw (go.2, append_assoc s.history (genome_entry x.seat (newborn s p) ∷ []) calls, first)
-            refl,
+                refl,
             go.3,
           )

@@ -1,15 +1,7 @@
 -- Lawful events, one after another.
 use Rattle.std.proofs.Common.{◌≡◌, ℕ, zero, suc, ◌+◌, cond, List, [], ◌∷◌, ◌++◌, take, Some, refl, sym, subst, ap, ◌∙◌, zero-add, inl, inr}
 use Rattle.std.specs.Prelude.{slice_get, count_by, fold}
-use Rattle.std.proofs.lemmas.Bool.Decides.{eqb_tells}
-use Rattle.std.proofs.lemmas.List.Sums.{sum_by-append}
-use Rattle.std.proofs.lemmas.Option.{none-some, same_Some}
-use Rattle.std.proofs.lemmas.Grind.{fold-append}
-use Rattle.world_config.specs.Values.{ConfigValues}
-use Rattle.event_orders.specs.declared.schedule.ScheduleEvent.{ScheduleEvent}
-use Rattle.event_orders.specs.State.{State}
-use Rattle.event_orders.specs.Schedule.{with_value_at, IsLawful, state_after_event}
-use Rattle.event_orders.specs.Orders.{is_gather}
+use Rattle.event_orders.proofs.Prelude.{eqb_tells, sum_by-append, none-some, same_Some, fold-append, ConfigValues, ScheduleEvent, State, with_value_at, IsLawful, state_after_event, is_gather}
 
 -- what holds of the value given to one place, and elsewhere of the value there, holds at each place
 pub at_either : {X : Type 0} (P : X → Type 0) (f : ℕ → X) (k j : ℕ) (x : X) → (j ≡ k → P x)

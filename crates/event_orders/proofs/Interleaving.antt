@@ -1,18 +1,7 @@
 -- Whatever the order in which seats intern the newborns of their own cells, a schedule has it.
 use Rattle.std.proofs.Common.{◌≡◌, ℕ, zero, suc, ◌+◌, ◌<◌, ◌≤◌, List, [], ◌++◌, length, map, take, refl, sym, subst, ap, ◌∙◌, inl, inr, arith, zero-add}
 use Rattle.std.specs.Prelude.{◌==◌}
-use Rattle.std.specs.List.{flat_map, range_with_len}
-use Rattle.std.proofs.lemmas.Bool.{cases_Bool}
-use Rattle.std.proofs.lemmas.Grind.{fold-append}
-use Rattle.std.proofs.lemmas.List.{map-append}
-use Rattle.std.proofs.lemmas.List.FromFn.{fill_by_all}
-use mathlib.Core.List.{map-map}
-use Rattle.genotype_bank.specs.declared.view.Entry.{Entry}
-use Rattle.world_config.specs.Values.{ConfigValues}
-use Rattle.event_orders.specs.declared.schedule.ScheduleEvent.{ScheduleEvent}
-use Rattle.event_orders.specs.State.{State, genome_entry, newborn_genomes, result_of, opening}
-use Rattle.event_orders.specs.Schedule.{MayGather, state_after_event, state_after, IsSchedule}
-use Rattle.event_orders.specs.Interleaving.{StartsUpdate, newborns_for, IsInterleaving, GoesOnWith}
+use Rattle.event_orders.proofs.Prelude.{flat_map, range_with_len, cases_Bool, fold-append, map-append, fill_by_all, map-map, Entry, ConfigValues, ScheduleEvent, State, genome_entry, newborn_genomes, result_of, opening, MayGather, state_after_event, state_after, IsSchedule, StartsUpdate, newborns_for, IsInterleaving, GoesOnWith}
 use Rattle.event_orders.proofs.Results.{AreLives}
 use Rattle.event_orders.proofs.Between.{holds_after}
 use Rattle.event_orders.proofs.Going.{Any, AllLawful-append, all_lawful, lawful_at, goes_on}

@@ -1,11 +1,7 @@
 -- What each seat has still to intern, and that it is one newborn less after its next call.
 use Rattle.std.proofs.Common.{◌≡◌, ◌⊎◌, ℕ, ◌<◌, true, false, List, [], ◌∷◌, length, Contains, refl, sym, subst, ◌∙◌, inl, inr}
 use Rattle.std.specs.Prelude.{IsSome, slice_index_or}
-use Rattle.instruction_set.specs.declared.letter.Letter.{Letter}
-use Rattle.world_config.specs.Values.{ConfigValues}
-use Rattle.event_orders.specs.declared.schedule.ScheduleEvent.TheVariants.{Intern}
-use Rattle.event_orders.specs.State.{State, newborn_genomes, result_of}
-use Rattle.event_orders.specs.Schedule.{with_value_at, state_after_event}
+use Rattle.event_orders.proofs.Prelude.{Letter, ConfigValues, Intern, State, newborn_genomes, result_of, with_value_at, state_after_event}
 use Rattle.event_orders.proofs.Members.{Contains-cons, Contains-cons_cases, Contains-here}
 use Rattle.event_orders.proofs.Going.{at_either}
 use Rattle.event_orders.proofs.Pairs.{Pair, Apart}

@@ -1,3 +1,4 @@
+pub mod Prelude
 mod Members
 mod Everyone
 mod Results

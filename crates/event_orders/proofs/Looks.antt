@@ -1,13 +1,7 @@
 -- What an observer has seen never falls.
 use Rattle.std.proofs.Common.{◌≡◌, ◌-◌, ℕ, zero, suc, ◌+◌, ◌<◌, ◌≤◌, List, length, get_or, refl, ap, ◌∙◌, arith, add-zero}
 use Rattle.std.specs.Prelude.{max}
-use Rattle.std.proofs.lemmas.Option.{slice_get_within, slice_get-get_or}
-use Rattle.world_config.specs.Values.{ConfigValues}
-use Rattle.event_orders.specs.declared.schedule.ScheduleEvent.{ScheduleEvent}
-use Rattle.event_orders.specs.declared.schedule.ScheduleEvent.TheVariants.{Run, Intern, Gather, Publish, Look, Hear}
-use Rattle.event_orders.specs.State.{State}
-use Rattle.event_orders.specs.Schedule.{with_value_at, state_after_event, IsSchedule}
-use Rattle.event_orders.specs.Orders.{LooksNeverFall}
+use Rattle.event_orders.proofs.Prelude.{slice_get_within, slice_get-get_or, ConfigValues, ScheduleEvent, Run, Intern, Gather, Publish, Look, Hear, State, with_value_at, state_after_event, IsSchedule, LooksNeverFall}
 use Rattle.event_orders.proofs.Between.{at_place, state_with}
 use Rattle.event_orders.proofs.Going.{at_same, at_either}
 

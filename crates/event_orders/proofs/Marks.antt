@@ -1,6 +1,6 @@
 -- Which newborns are marked as interned.
 use Rattle.std.proofs.Common.{◌≡◌, ℕ, Bool, true, refl, sym, ap, ◌∙◌}
-use Rattle.event_orders.specs.Schedule.{with_value_at}
+use Rattle.event_orders.proofs.Prelude.{with_value_at}
 use Rattle.event_orders.proofs.Going.{at_same, at_either}
 use Rattle.event_orders.proofs.Pairs.{Pair}
 

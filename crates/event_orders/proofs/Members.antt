@@ -1,13 +1,8 @@
 -- Members of lists that are made of others.
 use Rattle.std.proofs.Common.{◌≡◌, ◌++◌, Some, ℕ, ◌<◌, List, [], ◌∷◌, length, map, Contains, refl, sym, ◌∙◌, inl, inr, arith, length-append}
 use Rattle.std.specs.Prelude.{◌-◌}
-use Rattle.std.specs.List.{flat_map, range_with_len}
-use Rattle.std.proofs.lemmas.List.Elements.{Contains-append_left, Contains-append_right, Contains-append_cases}
-use Rattle.std.proofs.lemmas.List.FromFn.{length-map-range_with_len, get_or-map-range_with_len}
-use Rattle.std.proofs.lemmas.Option.{slice_get_within}
+use Rattle.event_orders.proofs.Prelude.{flat_map, range_with_len, Contains-append_left, Contains-append_right, Contains-append_cases, length-map-range_with_len, get_or-map-range_with_len, slice_get_within, get_pushed, last_of}
 pub use Rattle.genotype_bank.proofs.MemberLemmas.{Contains-nil, Contains-cons_cases, Contains-cons, Contains-here}
-use Rattle.lineage_log.proofs.StandingLemmas.{get_pushed}
-use Rattle.published_world.specs.PublicationHistory.{last_of}
 
 module _ {X A : Type 0} (f : X → List A) where
   -- a member of what one of the items gives is a member of all that they give

@@ -1,10 +1,7 @@
 -- Lists of pairs of a cell and the number of a newborn, of which each stands once.
 use Rattle.std.proofs.Common.{◌≡◌, ℕ, zero, suc, ◌+◌, ◌<◌, ◌≤◌, List, [], ◌∷◌, ◌++◌, map, Contains, refl, inl, inr, arith}
 use Rattle.std.specs.Prelude.{if◌then◌else◌, ◌==◌}
-use Rattle.std.specs.List.{flat_map, range_with_len}
-use Rattle.std.proofs.lemmas.Bool.{cases_eq, cases_Bool, eq-eqb}
-use Rattle.std.proofs.lemmas.Bool.Decides.{eqb_tells}
-use Rattle.std.proofs.lemmas.List.Elements.{Contains-append_left, Contains-append_right, Contains-append_cases}
+use Rattle.event_orders.proofs.Prelude.{flat_map, range_with_len, cases_eq, cases_Bool, eq-eqb, eqb_tells, Contains-append_left, Contains-append_right, Contains-append_cases}
 use Rattle.event_orders.proofs.Members.{Contains-nil, Contains-cons, Contains-cons_cases, Contains-here, Contains-from_fn}
 
 -- a cell and the number of a newborn

@@ -1,13 +1,6 @@
 -- The pictures that are published are those of their updates.
 use Rattle.std.proofs.Common.{◌≡◌, ◌-◌, ℕ, zero, suc, ◌<◌, List, [], ◌∷◌, ◌++◌, length, get_or, refl, sym, ap, ◌∙◌, inl, inr, arith, length-append}
-use Rattle.std.proofs.lemmas.Option.{slice_get-get_or}
-use Rattle.world_config.specs.Values.{ConfigValues}
-use Rattle.world_rules.specs.Picture.{PictureValue, picture_of}
-use Rattle.event_orders.specs.State.{State}
-use Rattle.event_orders.specs.Schedule.{IsLawful}
-use Rattle.event_orders.specs.Orders.{ShowsEachUpdate}
-use Rattle.event_orders.specs.declared.schedule.ScheduleEvent.TheVariants.{Publish}
-use Rattle.lineage_log.proofs.StandingLemmas.{get_pushed}
+use Rattle.event_orders.proofs.Prelude.{slice_get-get_or, ConfigValues, PictureValue, picture_of, State, IsLawful, ShowsEachUpdate, Publish, get_pushed}
 
 -- what holds of the pictures
 pub record AreShown (config : ConfigValues) (pictures : List PictureValue) : Type 0 where

@@ -1,16 +1,7 @@
 -- The lives of an update so far, and the newborns among them.
 use Rattle.std.proofs.Common.{◌≡◌, ℕ, ◌<◌, List, [], length, map, Option, Some, Contains, sym, subst, ap, ◌∙◌, arith}
 use Rattle.std.specs.Prelude.{IsSome, slice_index_or, unwrap_or}
-use Rattle.std.specs.List.{flat_map, range_with_len}
-use Rattle.std.proofs.lemmas.List.{get_or_default}
-use Rattle.std.proofs.lemmas.List.Elements.{Contains-get_or}
-use Rattle.std.proofs.lemmas.List.FromFn.{length-map-range_with_len, get_or-map-range_with_len, fill_by_all}
-use Rattle.instruction_set.specs.declared.letter.Letter.{Letter}
-use Rattle.world_config.specs.Values.{ConfigValues}
-use Rattle.world_rules.specs.World.{World}
-use Rattle.world_rules.specs.Lives.{CellLife, no_life}
-use Rattle.event_orders.specs.State.{State, life_in, newborn_genomes, results_of}
-use Rattle.event_orders.specs.Schedule.{with_value_at}
+use Rattle.event_orders.proofs.Prelude.{flat_map, range_with_len, get_or_default, Contains-get_or, length-map-range_with_len, get_or-map-range_with_len, fill_by_all, Letter, ConfigValues, World, CellLife, no_life, State, life_in, newborn_genomes, results_of, with_value_at}
 use Rattle.event_orders.proofs.Going.{at_either}
 use Rattle.event_orders.proofs.Members.{Contains-flat_map, Contains-flat_map_cases, Contains-from_fn, Contains-from_fn_cases}
 

@@ -2,19 +2,8 @@
 -- intern their newborns.
 use Rattle.std.proofs.Common.{◌≡◌, ℕ, zero, suc, ◌+◌, ◌<◌, ◌≤◌, Bool, true, false, List, [], ◌∷◌, length, map, length-append, Option, Some, refl, sym, subst, ap, ◌∙◌, arith, add-one, add-zero, zero-add}
 use Rattle.std.specs.Prelude.{IsSome, IsNone, max, unwrap_or}
-use Rattle.std.proofs.lemmas.List.{map-append}
-use Rattle.std.proofs.lemmas.List.Elements.{Contains-push}
+use Rattle.event_orders.proofs.Prelude.{map-append, Contains-push, last_of, ConfigValues, World, CellLife, no_life, PictureValue, picture_of, ScheduleEvent, Run, Intern, Gather, Publish, Look, Hear, State, opening, life_in, newborn_genomes, result_of, results_of, IsLawful, with_value_at, state_after_event, IsScheduleFor}
 use borrow.Author.Count.{below_more}
-use Rattle.published_world.specs.PublicationHistory.{last_of}
-use Rattle.world_config.specs.Values.{ConfigValues}
-use Rattle.world_rules.specs.World.{World}
-use Rattle.world_rules.specs.Lives.{CellLife, no_life}
-use Rattle.world_rules.specs.Picture.{PictureValue, picture_of}
-use Rattle.event_orders.specs.declared.schedule.ScheduleEvent.{ScheduleEvent}
-use Rattle.event_orders.specs.declared.schedule.ScheduleEvent.TheVariants.{Run, Intern, Gather, Publish, Look, Hear}
-use Rattle.event_orders.specs.State.{State, opening, life_in, newborn_genomes, result_of, results_of}
-use Rattle.event_orders.specs.Schedule.{IsLawful, with_value_at, state_after_event}
-use Rattle.event_orders.specs.Orders.{IsScheduleFor}
 use Rattle.event_orders.proofs.Members.{last_pushed}
 use Rattle.event_orders.proofs.Everyone.{update_after, update_next}
 use Rattle.event_orders.proofs.Pictures.{picture_update}

@@ -6,4 +6,3 @@ pub use Rattle.world_rules.specs.WorldRun
 pub mod State
 pub mod Schedule
 pub mod Orders
-pub mod Interleaving

@@ -5,8 +5,7 @@ ghost use Rattle.genotype_bank.specs.declared.view.Entry.{Entry};
 ghost use Rattle.world_config.specs.Shown.{values_of};
 ghost use Rattle.world_rules.specs.WorldRun.{world_after};
 ghost use Rattle.event_orders.specs.declared.schedule.ScheduleEvent.{ScheduleEvent};
-ghost use Rattle.event_orders.specs.Interleaving.{GoesOnWith, IsInterleaving, StartsUpdate};
-ghost use Rattle.event_orders.specs.Orders.{AfterEachGather, IsScheduleFor, LooksNeverFall, ShowsEachUpdate};
+ghost use Rattle.event_orders.specs.Orders.{GoesOnWith, IsInterleaving, StartsUpdate, AfterEachGather, IsScheduleFor, LooksNeverFall, ShowsEachUpdate};
 ghost use Rattle.event_orders.specs.Schedule.{IsSchedule, state_after};
 
 use crate::Schedule;

@@ -1,4 +1,3 @@
 pub mod Genome
 pub mod GenomeText
-pub mod Genomes
 pub mod Lengths

@@ -1,22 +1,8 @@
 -- The steps of one interning, put together.
 use Rattle.std.proofs.Common.{arith, ◌≡◌, ℕ, List, [], ◌∷◌, ◌++◌, true, inl, inr, refl, sym, ap, ◌∙◌, eq-eqb, Option, append_assoc}
-use Rattle.std.proofs.lemmas.Bool.{cases_Bool}
-use Rattle.std.proofs.lemmas.Grind.{common_steps}
-use mathlib.Core.List.{IsPrefix}
-use Rattle.std.specs.List.Sorted.{IsPermutation}
-use Rattle.std.proofs.lemmas.List.Sorted.{IsPermutation-refl, IsPermutation-trans, IsPermutation-cons, IsPermutation-middle}
+use Rattle.genotype_bank.proofs.Prelude.{cases_Bool, common_steps, IsPrefix, IsPermutation, IsPermutation-refl, IsPermutation-trans, IsPermutation-cons, IsPermutation-middle, Catalog, View, Entry, Call, entry, is_among, calls_under, genotypes_of, with_call, MakesCall, SeatValue, all_shares, idle_view, with_ticket, at_turn, last_drawn_number, genomes_in, last_call, seat_of, Seated}
 use Rattle.genotype_bank.proofs.HistoryLemmas.{has_app, not_so}
-use Rattle.genotype_bank.specs.declared.catalog.Catalog.{Catalog}
-use Rattle.genotype_bank.specs.declared.view.View.{View}
-use Rattle.genotype_bank.specs.declared.view.Entry.{Entry}
-use Rattle.genotype_bank.specs.declared.view.Call.{Call}
-use Rattle.genotype_bank.specs.BankHistory.{entry, is_among, calls_under, genotypes_of, with_call}
 use Rattle.atomic_table.specs.Seated.{TableId}
-use Rattle.genotype_bank.specs.Seats.{MakesCall, SeatValue, all_shares}
-use Rattle.genotype_bank.specs.Views.{idle_view}
-use Rattle.genotype_bank.specs.BankSteps.{with_ticket, at_turn, last_drawn_number}
-use Rattle.genotype_bank.specs.Catalog.{genomes_in, last_call}
-use Rattle.genotype_bank.specs.BankTable.{seat_of, Seated}
 use Rattle.genotype_bank.proofs.DifferentLemmas.{OneList, genotypes_of_push}
 
 -- a call under one of some numbers at the end of a history is the last under them

@@ -1,30 +1,12 @@
 -- The different ones of some genomes, as they come one after another.
 use Rattle.std.proofs.Common.{◌≡◌, ◌≢◌, ◌⊎◌, refl, sym, ◌∙◌, ap, subst, inl, inr, true≢false, arith, ℕ, Bool, true, false, cond, not, List, [], ◌∷◌, ◌++◌, map, Contains, Option, append-nil, append_assoc, Some, slice_get, length, length-append, ◌+◌}
 use Rattle.std.specs.Prelude.{◌↔◌, AllPairs, nat_lt}
-use Rattle.std.proofs.lemmas.Bool.{cases_Bool, lt-ltb, le-ltb}
+use Rattle.genotype_bank.proofs.Prelude.{cases_Bool, lt-ltb, le-ltb, dite, dec_lt, filter, list_any, cons_option, Decides, same_from_decides, common_steps, slice_get_read, slice_get_within, get_or_from_slice_get, filter-append, filter_map-append, Contains-append_left, Contains-get_or, Contains-push, Contains-push_cases, IsPermutation-sym, IsPermutation, IsPrefix, Letter, same_letters, Entry, Call, different_of, HasEachOnce, genomes_of, genotypes_of, interned_genome, with_call, with_genome, NumbersAgree}
 use Rattle.std.specs.Cmp.{IsEquivalence}
-use mathlib.Core.Logic.{dite}
-use native.Mathlib.Decide.{dec_lt}
-use Rattle.std.specs.List.{filter, list_any, cons_option}
-use Rattle.std.specs.Bool.{Decides}
-use Rattle.std.proofs.lemmas.Bool.Decides.{same_from_decides}
-use Rattle.std.proofs.lemmas.Grind.{common_steps}
 use Rattle.std.proofs.lemmas.List.{get_or_append_left, map_push}
 use Rattle.std.proofs.lemmas.Map.Views.{Contains-from_any, list_any-from_Contains}
-use Rattle.std.proofs.lemmas.Option.{slice_get_read, slice_get_within, get_or_from_slice_get}
-use Rattle.std.proofs.lemmas.List.Elements.{filter-append, filter_map-append, Contains-append_left, Contains-get_or, Contains-push, Contains-push_cases}
-use Rattle.std.proofs.lemmas.List.Sorted.{IsPermutation-sym}
-use Rattle.std.specs.List.Sorted.{IsPermutation}
 use Rattle.std.proofs.lemmas.List.Quantifiers.{all_pairs_push}
-use mathlib.Core.List.{IsPrefix}
-use Rattle.instruction_set.specs.declared.letter.Letter.{Letter}
-use Rattle.instruction_set.specs.Letter.{same_letters}
-use Rattle.genotype_bank.specs.declared.view.Entry.{Entry}
-use Rattle.genotype_bank.specs.declared.view.Call.{Call}
 use Rattle.genotype_bank.specs.declared.view.Call.TheVariants.{Interned, Refused}
-use Rattle.genome.specs.Genomes.{different_of}
-use Rattle.genotype_bank.specs.BankHistory.{HasEachOnce, genomes_of, genotypes_of, interned_genome, with_call, with_genome}
-use Rattle.genotype_bank.specs.Seats.{NumbersAgree}
 use Rattle.genotype_bank.proofs.HistoryLemmas.{pre_trans}
 use Rattle.genotype_bank.proofs.MemberLemmas.{Contains-filter_map_permuted}
 

@@ -1,20 +1,8 @@
 -- Histories, their prefixes, and the calls under some numbers.
 use Rattle.std.proofs.Common.{◌≡◌, ◌⊎◌, ℕ, suc, ◌≤◌, List, [], ◌∷◌, ◌++◌, length, Bool, true, false, true≢false, refl, sym, ap, ◌||◌, ◌∙◌, subst, inl, inr, ⊎_elim, arith, eqb, ne_eqb, length-append, append-nil, append_assoc, if◌then◌else◌, Option, Some, None}
+use Rattle.genotype_bank.proofs.Prelude.{or_cases, or_right, nat_tests, common_steps, some, some-ne-none, dite, IsPrefix, ℕ_discrete, get_elem?, at_longer, Entry, is_among, calls_under, SawOwn, longer}
 use Rattle.std.proofs.Math.Bool.{or_assoc}
-use Rattle.std.proofs.lemmas.Bool.{or_cases, or_right}
-use Rattle.std.proofs.lemmas.Bool.Decides.{nat_tests}
-use Rattle.std.proofs.lemmas.Grind.{common_steps}
 use Rattle.std.specs.Prelude.{nat_lt}
-use mathlib.Core.Option.{some, some-ne-none}
-use mathlib.Core.Logic.{dite}
-use mathlib.Core.List.{IsPrefix}
-use native.Mathlib.Decide.{ℕ_discrete}
-use lib.ListN.{get_elem?}
-use Rattle.atomic_table.proofs.Lists.{at_longer}
-use Rattle.genotype_bank.specs.declared.view.Entry.{Entry}
-use Rattle.genotype_bank.specs.BankHistory.{is_among, calls_under}
-use Rattle.genotype_bank.specs.Views.{SawOwn}
-use Rattle.genotype_bank.specs.BankSteps.{longer}
 
 -- nothing isn't something
 pub none_some : (t : ℕ) → None ≡ Some t → ⊥

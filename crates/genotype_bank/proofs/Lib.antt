@@ -1,3 +1,4 @@
+pub mod Prelude
 pub mod DifferentLemmas
 pub mod MemberLemmas
 pub mod PackingLemmas

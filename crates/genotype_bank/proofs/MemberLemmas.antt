@@ -1,9 +1,6 @@
 -- Members of what a test with a value keeps.
 use Rattle.std.proofs.Common.{ap, ◌≡◌, ◌⊎◌, zero, suc, ◌<◌, List, [], ◌∷◌, Contains, Option, None, Some, refl, subst, ◌∙◌, inl, inr, ⊎_elim, arith}
-use Rattle.std.specs.List.{filter_map, cons_option}
-use Rattle.std.specs.List.Sorted.{IsPermutation}
-use Rattle.std.proofs.lemmas.List.Sorted.{Contains-permutation}
-use Rattle.std.proofs.lemmas.List.Elements.{Contains-get_or, Contains-append_right}
+use Rattle.genotype_bank.proofs.Prelude.{filter_map, cons_option, IsPermutation, Contains-permutation, Contains-get_or, Contains-append_right}
 
 module _ {X : Type 0} where
   -- nothing is in the empty list

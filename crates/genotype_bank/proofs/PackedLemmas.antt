@@ -1,11 +1,7 @@
 -- Packed genomes are equal exactly where their letters are.
 use Rattle.std.proofs.Common.{◌≡◌, ◌∙◌, refl, sym, ap}
-use Rattle.std.specs.Bool.{Decides}
-use Rattle.std.proofs.lemmas.Bool.Decides.{Decides-eqb, same_from_decides}
+use Rattle.genotype_bank.proofs.Prelude.{Decides, Decides-eqb, same_from_decides, same_letters, letters_of, packed, unpacked}
 use Rattle.std.proofs.lemmas.Slice.Eq.{slice_eq-Decides}
-use Rattle.instruction_set.specs.Letter.{same_letters}
-use Rattle.genotype_bank.specs.Letters.{letters_of}
-use Rattle.genotype_bank.specs.Packing.{packed, unpacked}
 use Rattle.genotype_bank.specs.declared.packed_genome.PackedGenome.{PackedGenome}
 use Rattle.genotype_bank.specs.contracts.packed_genome.PackedGenomePartialEq.TheImpl.{ghosts}
 use Rattle.genotype_bank.proofs.DifferentLemmas.{OneList}

@@ -1,13 +1,8 @@
 -- Letters are found again in their words.
 use Rattle.std.proofs.Common.{◌≡◌, refl, sym, arith, inl, inr, ℕ, zero, suc, ◌+◌, ◌-◌, ◌*◌, ◌/◌, ◌%◌, ◌^◌, ◌<◌, Some, List, [], ◌∷◌, ◌++◌, fold, nat_lt, append-nil, append_assoc, eq-eqb}
-use Rattle.std.proofs.Math.Nat.{pow-suc}
-use Rattle.std.proofs.lemmas.Bool.{cases_Bool, ltb-true, ne_eqb}
-use Rattle.std.proofs.lemmas.Grind.{flat_map-append}
+use Rattle.genotype_bank.proofs.Prelude.{pow-suc, cases_Bool, ltb-true, ne_eqb, flat_map-append, Letter, index_of, letter_at, Packing, digit_of, full_word, letters_within, packed, packing, unpacked, with_letter, words_in}
 use Rattle.std.proofs.lemmas.Nat.{div_below, div-mul-add, mod-mul-add}
-use Rattle.instruction_set.specs.declared.letter.Letter.{Letter}
 use Rattle.instruction_set.specs.declared.letter.Letter.TheVariants.{NopA}
-use Rattle.instruction_set.specs.Letter.{index_of, letter_at}
-use Rattle.genotype_bank.specs.Packing.{Packing, digit_of, full_word, letters_within, packed, packing, unpacked, with_letter, words_in}
 
 -- a letter has a row of the table, and is found there
 record HasRow (letter : Letter) : Type 0 where

@@ -1,22 +1,7 @@
 -- A bank begins; seats are split and joined; a bank is closed. Each step keeps the rule.
 use Rattle.std.proofs.Common.{◌≡◌, ◌⊎◌, ℕ, zero, suc, ◌+◌, ◌-◌, ◌<◌, ◌≤◌, List, [], ◌∷◌, length, set, get_or, true, false, refl, sym, ap, ◌∙◌, subst, inl, inr, ⊎_elim, arith, Option, Some, None}
-use mathlib.Core.Option.{some, none, some-injective}
-use mathlib.Core.Logic.{dite}
-use mathlib.Core.List.{IsPrefix}
-use native.Mathlib.Decide.{ℕ_discrete}
-use lib.ListN.{get_elem?}
-use Rattle.atomic_table.proofs.Lists.{at_set, set_here, set_else}
-use Rattle.atomic_table.specs.Table.{step, keeps, Allows, Splits, Joins, opening, Final, Seen}
-use Rattle.genotype_bank.specs.declared.catalog.Catalog.{Catalog}
-use Rattle.genotype_bank.specs.declared.view.View.{View}
+use Rattle.genotype_bank.proofs.Prelude.{some, none, some-injective, dite, IsPrefix, ℕ_discrete, get_elem?, at_set, set_here, set_else, step, keeps, Allows, Splits, Joins, opening, Final, Seen, Catalog, View, Entry, genotypes_of, all_shares, idle_view, first_view, spent_view, seat_share, draws_of, one_if, Carries, FitsHistory, SomeSeat, genomes_in, IsBankTable, Seated, kept_half, new_half, joined_view, memo_of, HasRecalled}
 use Rattle.genotype_bank.specs.declared.view.Memo.{Memo}
-use Rattle.genotype_bank.specs.declared.view.Entry.{Entry}
-use Rattle.genotype_bank.specs.BankHistory.{genotypes_of}
-use Rattle.genotype_bank.specs.Seats.{all_shares}
-use Rattle.genotype_bank.specs.Views.{idle_view, first_view, spent_view, seat_share, draws_of, one_if, Carries, FitsHistory, SomeSeat}
-use Rattle.genotype_bank.specs.Catalog.{genomes_in}
-use Rattle.genotype_bank.specs.BankTable.{IsBankTable, Seated}
-use Rattle.genotype_bank.specs.BankSteps.{kept_half, new_half, joined_view, memo_of, HasRecalled}
 use Rattle.genotype_bank.proofs.ViewLemmas.{within, one_there, total_set, total_snoc, each_set, each_snoc, only_set, only_keep, only_snoc, seats_kept, some_set, some_snoc, placed_set, placed_keep, placed_snoc, total_ge, set_swap}
 use Rattle.genotype_bank.proofs.HistoryLemmas.{none_some, off, nothing_there, in_front, own_seen, own_all, second_case, pre_two, pre_whole, pick, longer_least, either_has, has_left, has_right}
 use Rattle.genotype_bank.proofs.TableLemmas.{fits_rest, fits_idle, fits_new, others_spent, carried_all, whole_seen}

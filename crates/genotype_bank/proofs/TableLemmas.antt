@@ -1,19 +1,6 @@
 -- What the rule says of one seat.
 use Rattle.std.proofs.Common.{◌≡◌, ◌≢◌, ℕ, ◌<◌, ◌≤◌, List, [], set, ap, ◌∙◌, subst, arith, Option, Some}
-use mathlib.Core.Option.{some}
-use mathlib.Core.Logic.{dite}
-use mathlib.Core.List.{IsPrefix}
-use native.Mathlib.Decide.{ℕ_discrete}
-use lib.ListN.{get_elem?}
-use Rattle.std.proofs.lemmas.Grind.{common_steps}
-use Rattle.atomic_table.proofs.Lists.{set_else}
-use Rattle.atomic_table.specs.Table.{State}
-use Rattle.genotype_bank.specs.declared.catalog.Catalog.{Catalog}
-use Rattle.genotype_bank.specs.declared.view.View.{View}
-use Rattle.genotype_bank.specs.declared.view.Entry.{Entry}
-use Rattle.genotype_bank.specs.Seats.{all_shares}
-use Rattle.genotype_bank.specs.Views.{idle_view, spent_view, total, seat_share, draws_of, Carries, FitsHistory, SawOwn}
-use Rattle.genotype_bank.specs.BankTable.{IsBankTable}
+use Rattle.genotype_bank.proofs.Prelude.{some, dite, IsPrefix, ℕ_discrete, get_elem?, common_steps, set_else, State, Catalog, View, Entry, all_shares, idle_view, spent_view, total, seat_share, draws_of, Carries, FitsHistory, SawOwn, IsBankTable}
 use Rattle.genotype_bank.proofs.ViewLemmas.{total_set, total_le, total_ge}
 use Rattle.genotype_bank.proofs.HistoryLemmas.{none_some, off, nothing_there, pre_whole}
 

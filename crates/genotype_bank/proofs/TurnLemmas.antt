@@ -1,21 +1,6 @@
 -- A turn is drawn, looked for and released. Each step keeps the rule.
 use Rattle.std.proofs.Common.{add-one, ◌≡◌, ◌≢◌, ℕ, suc, ◌+◌, ◌%◌, ◌^◌, ◌<◌, List, [], ◌∷◌, ◌++◌, length, set, get_or, true, false, refl, sym, ap, ◌∙◌, subst, inl, inr, ⊎_elim, arith, length-append, append-nil, Some, None}
-use Rattle.std.proofs.Math.Nat.{mod-add-mod}
-use mathlib.Core.Option.{some, none}
-use mathlib.Core.Logic.{dite}
-use mathlib.Core.List.{IsPrefix}
-use native.Mathlib.Decide.{ℕ_discrete}
-use lib.ListN.{get_elem?}
-use Rattle.atomic_table.proofs.Lists.{set_here, set_again, one_turn}
-use Rattle.atomic_table.specs.Table.{step, keeps, takes, gives, Allows, stepped}
-use Rattle.genotype_bank.specs.declared.catalog.Catalog.{Catalog}
-use Rattle.genotype_bank.specs.declared.view.View.{View}
-use Rattle.genotype_bank.specs.declared.view.Entry.{Entry}
-use Rattle.genotype_bank.specs.BankHistory.{entry, genotypes_of, is_among}
-use Rattle.genotype_bank.specs.Views.{idle_view, seat_share, draws_of, one_if, Carries, FitsHistory, SawOwn}
-use Rattle.genotype_bank.specs.Catalog.{genomes_in, call_in}
-use Rattle.genotype_bank.specs.BankTable.{IsBankTable, Seated}
-use Rattle.genotype_bank.specs.BankSteps.{with_ticket, HasDrawn, at_turn, HasLooked, last_drawn_number, after_turn, HasReleased}
+use Rattle.genotype_bank.proofs.Prelude.{mod-add-mod, some, none, dite, IsPrefix, ℕ_discrete, get_elem?, set_here, set_again, one_turn, step, keeps, takes, gives, Allows, stepped, Catalog, View, Entry, entry, genotypes_of, is_among, idle_view, seat_share, draws_of, one_if, Carries, FitsHistory, SawOwn, genomes_in, call_in, IsBankTable, Seated, with_ticket, HasDrawn, at_turn, HasLooked, last_drawn_number, after_turn, HasReleased}
 use Rattle.genotype_bank.proofs.ViewLemmas.{within, total_set, each_set, at_end, only_set, only_keep, seats_kept, some_set, placed_set}
 use Rattle.genotype_bank.proofs.HistoryLemmas.{none_some, value, off, own_more, in_front, has_back, has_front, own_seen, pre_trans, own_all, second_case}
 use Rattle.genotype_bank.proofs.TableLemmas.{fits_rest, own_number, draws_below, drawn_lives, carried_all}

@@ -1,13 +1,6 @@
 -- Facts of all views, after one has changed or come.
 use Rattle.std.proofs.Common.{◌≡◌, ◌≢◌, ◌⊎◌, ℕ, zero, suc, ◌+◌, ◌<◌, ◌≤◌, List, [], ◌∷◌, ◌++◌, length, set, refl, sym, ap, ◌∙◌, subst, inl, inr, ⊎_elim, arith}
-use mathlib.Core.Option.{some, some-ne-none, some-injective}
-use mathlib.Core.Logic.{dite}
-use native.Mathlib.Decide.{ℕ_discrete}
-use lib.ListN.{get_elem?}
-use Rattle.atomic_table.proofs.Lists.{at_set, at_snoc, set_here, set_else, at_longer}
-use Rattle.genotype_bank.specs.declared.view.View.{View}
-use Rattle.genotype_bank.specs.declared.view.Entry.{Entry}
-use Rattle.genotype_bank.specs.Views.{total, seat_share, AtMostOne, SomeSeat, NumbersArePlaces, AreSeats, Carries}
+use Rattle.genotype_bank.proofs.Prelude.{some, some-ne-none, some-injective, dite, ℕ_discrete, get_elem?, at_set, at_snoc, set_here, set_else, at_longer, View, Entry, total, seat_share, AtMostOne, SomeSeat, NumbersArePlaces, AreSeats, Carries}
 
 -- a place that has something is in the list
 pub within : {A : Type 0} (l : List A) (i : ℕ) (a : A) → get_elem? l i ≡ some a → i < length l

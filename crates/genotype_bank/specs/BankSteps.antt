@@ -8,11 +8,9 @@ use Rattle.genotype_bank.specs.declared.catalog.Catalog.{Catalog}
 use Rattle.genotype_bank.specs.declared.view.View.{View}
 use Rattle.genotype_bank.specs.declared.view.Memo.{Memo}
 use Rattle.genotype_bank.specs.declared.view.Entry.{Entry}
-use Rattle.genotype_bank.specs.BankHistory.{entry, genotypes_of, is_among, calls_under}
-use Rattle.genotype_bank.specs.Seats.{all_shares}
-use Rattle.genotype_bank.specs.Catalog.{genomes_in, call_in}
+use Rattle.genotype_bank.specs.BankHistory.{entry, genotypes_of, is_among, calls_under, all_shares}
+use Rattle.genotype_bank.specs.BankTable.{genomes_in, call_in, Seated}
 use Rattle.genotype_bank.specs.Views.{idle_view}
-use Rattle.genotype_bank.specs.BankTable.{Seated}
 
 -- a seat with its ticket and, from now on, a number of its own
 abbrev pub with_ticket : View → ℕ → ℕ → View

@@ -1,19 +1,45 @@
--- The rule of a bank's table (docs/ARCHITECTURE.md, "The bank of genotypes").
--- Word 0 is the number of draws and word 1 the number of calls that have ended, both modulo 2 ^ 64.
--- The slot has the catalog, or nothing while a seat has it out.
-use Rattle.std.specs.Prelude.{◌≡◌, ◌⊎◌, ℕ, ◌+◌, ◌%◌, ◌^◌, ◌<◌, ◌≤◌, List, [], ◌∷◌, true, length, Option, Some}
+-- The rule of a bank's table (docs/ARCHITECTURE.md, "The bank of genotypes"). Word 0 is the number
+-- of draws and word 1 the number of calls that have ended, both modulo 2 ^ 64. The slot has the
+-- catalog of the genomes, or nothing while a seat has it out.
+use Rattle.std.specs.Prelude.{List, map, ℕ, [], ◌∷◌, slice_get, Option, option_and_then, ◌≡◌, ◌⊎◌, ◌+◌, ◌%◌, ◌^◌, ◌<◌, ◌≤◌, true, length, Some}
+use Rattle.instruction_set.specs.declared.letter.Letter.{Letter}
+use Rattle.genotype_bank.specs.Packing.{unpacked}
+use Rattle.genotype_bank.specs.declared.packed_genome.PackedGenome.{PackedGenome}
+use Rattle.genotype_bank.specs.declared.catalog.Catalog.{Catalog}
+use Rattle.genotype_bank.specs.declared.view.Call.{Call}
+use Rattle.genotype_bank.specs.declared.view.Call.TheVariants.{Interned, Refused}
+use Rattle.std.specs.Option.{option_map_or}
 use mathlib.Core.Option.{some}
 use mathlib.Core.Option as maybe
 use lib.ListN.{get_elem?}
 use Rattle.atomic_table.specs.Table.{State, Me}
-use Rattle.genotype_bank.specs.declared.catalog.Catalog.{Catalog}
 use Rattle.genotype_bank.specs.declared.view.View.{View}
 use Rattle.genotype_bank.specs.declared.view.Entry.{Entry}
-use Rattle.genotype_bank.specs.BankHistory.{genotypes_of, calls_under}
+use Rattle.genotype_bank.specs.BankHistory.{genotypes_of, calls_under, SeatValue, all_shares}
 use Rattle.atomic_table.specs.Seated.{TableId}
-use Rattle.genotype_bank.specs.Seats.{SeatValue, all_shares}
-use Rattle.genotype_bank.specs.Catalog.{genomes_in}
 use Rattle.genotype_bank.specs.Views.{idle_view, total, draws_of, FitsHistory, AtMostOne, SomeSeat, AreSeats}
+
+-- the letters of a packed genome
+abbrev pub letters_of : PackedGenome → List Letter
+letters_of genome = unpacked genome.words.items
+
+-- the letters of packed genomes, in their order
+abbrev pub letters_in : List PackedGenome → List (List Letter)
+letters_in genomes = map letters_of genomes
+
+-- the genomes of a catalog, in the order of their numbers
+abbrev pub genomes_in : Catalog → List (List Letter)
+genomes_in catalog = letters_in catalog.genomes.keys
+
+-- what the last call came to, as the catalog has it
+abbrev pub last_call : Catalog → Call
+last_call catalog =
+    option_map_or Interned (option_and_then (slice_get (genomes_in catalog)) catalog.last) Refused
+
+-- the same of what a seat has out of the slot
+abbrev pub call_in : List (ℕ × Option Catalog) → Call
+call_in [] = Refused
+call_in (x ∷ xs) = option_map_or last_call x.1 Refused
 
 -- there is one history, of which each seat has seen a prefix, and the catalog has its genotypes.
 -- The turns before its length are over, and the tickets from there to the number of draws are out

@@ -6,8 +6,7 @@ use lib.ListN.{get_elem?}
 use Rattle.genotype_bank.specs.declared.view.View.{View}
 use Rattle.genotype_bank.specs.declared.view.Memo.{Memo}
 use Rattle.genotype_bank.specs.declared.view.Entry.{Entry}
-use Rattle.genotype_bank.specs.BankHistory.{is_among}
-use Rattle.genotype_bank.specs.Seats.{all_shares}
+use Rattle.genotype_bank.specs.BankHistory.{is_among, all_shares}
 
 -- a seat between two calls
 abbrev pub idle_view : ℕ → List ℕ → List Entry → View

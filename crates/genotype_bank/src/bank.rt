@@ -3,9 +3,8 @@ ghost use Rattle.std.specs.Prelude.{◌≡◌, ◌+◌, ◌-◌, ◌<◌, ◌^�
 ghost use mathlib.Core.List.{IsPrefix};
 ghost use Rattle.std.specs.List.Sorted.{IsPermutation};
 ghost use Rattle.genome.specs.Genome.{letters};
-ghost use Rattle.genotype_bank.specs.BankHistory.{call_of, calls_under, genotypes_of, with_call};
-ghost use Rattle.genotype_bank.specs.Letters.{letters_in};
-ghost use Rattle.genotype_bank.specs.Seats.{MakesCall, all_shares, own_calls_of};
+ghost use Rattle.genotype_bank.specs.BankHistory.{call_of, calls_under, genotypes_of, with_call, MakesCall, all_shares, own_calls_of};
+ghost use Rattle.genotype_bank.specs.BankTable.{letters_in};
 
 use crate::catalog::Catalog;
 use crate::handle::Handle;

@@ -2,7 +2,7 @@
 ghost use Rattle.std.specs.Prelude.{◌≡◌, ◌<◌, ◌^◌, IfOk, MatchResult, Some, is_ok, slice_get};
 ghost use Rattle.genome.specs.Genome.{letters};
 ghost use Rattle.genotype_bank.specs.BankHistory.{with_genome};
-ghost use Rattle.genotype_bank.specs.Letters.{letters_in, letters_of};
+ghost use Rattle.genotype_bank.specs.BankTable.{letters_in, letters_of};
 
 use crate::handle::Handle;
 use crate::packed_genome::PackedGenome;
@@ -23,7 +23,7 @@ pub(crate) struct Catalog {
 
 impl Catalog {
     ghost use Rattle.genotype_bank.specs.BankHistory.{with_call, call_of};
-    ghost use Rattle.genotype_bank.specs.Catalog.{genomes_in, last_call};
+    ghost use Rattle.genotype_bank.specs.BankTable.{genomes_in, last_call};
 
     /// Serves one call: a genome that is new stands behind the others.
     pub(crate) fn serve(&mut self, alloc: Global, genome: Genome) -> Result<Handle, Memory>

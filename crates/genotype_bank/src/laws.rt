@@ -3,9 +3,8 @@ ghost use Rattle.std.specs.Prelude.{◌≡◌, ◌↔◌, ◌+◌, ◌++◌, ◌
 ghost use Rattle.std.specs.List.Sorted.{IsPermutation};
 ghost use mathlib.Core.List.{IsPrefix};
 ghost use Rattle.instruction_set.specs.declared.letter.Letter.{Letter};
-ghost use Rattle.genome.specs.Genomes.{different_of};
-ghost use Rattle.genotype_bank.specs.BankHistory.{HasEachOnce, genomes_of, genotypes_of, with_call, with_genome};
-ghost use Rattle.genotype_bank.specs.Seats.{MakesCall, NumbersAgree, SeatValue};
+ghost use Rattle.genome.specs.Genome.{different_of};
+ghost use Rattle.genotype_bank.specs.BankHistory.{HasEachOnce, genomes_of, genotypes_of, with_call, with_genome, MakesCall, NumbersAgree, SeatValue};
 ghost use Rattle.genotype_bank.specs.declared.view.Call.{Call};
 ghost use Rattle.genotype_bank.specs.declared.view.Entry.{Entry};
 

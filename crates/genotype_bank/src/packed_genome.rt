@@ -18,7 +18,7 @@ pub(crate) struct PackedGenome {
 impl PackedGenome {
     ghost use Rattle.std.specs.Prelude.{IfOk};
     ghost use Rattle.genome.specs.Genome.{letters};
-    ghost use Rattle.genotype_bank.specs.Letters.{letters_of};
+    ghost use Rattle.genotype_bank.specs.BankTable.{letters_of};
 
     /// A genome, packed.
     pub(crate) fn pack(alloc: Global, genome: &Genome) -> Result<PackedGenome, Memory>

@@ -15,7 +15,7 @@ pub struct Seat {
 
 impl Model for Seat {
     ghost use Rattle.genotype_bank.specs.BankTable.{IsIdleSeat, seat_of};
-    ghost use Rattle.genotype_bank.specs.Seats.{SeatValue};
+    ghost use Rattle.genotype_bank.specs.BankHistory.{SeatValue};
 
     ghost Value = { SeatValue };
 
@@ -25,7 +25,7 @@ impl Model for Seat {
 }
 
 impl Seat {
-    ghost use Rattle.genotype_bank.specs.Seats.{all_shares, own_calls_of};
+    ghost use Rattle.genotype_bank.specs.BankHistory.{all_shares, own_calls_of};
 
     /// A whole seat has made all calls that it has seen.
     pub fn owns_all(&self)

@@ -1,11 +1,10 @@
 // The steps of a call on a bank's table, one by one.
 ghost use Rattle.std.specs.Prelude.{◌≡◌, ℕ, ◌+◌, ◌-◌, ◌%◌, ◌^◌, ◌<◌, [], ◌∷◌, ◌++◌, ◌⊎◌, None, Some, false, true, List};
 ghost use mathlib.Core.List.{IsPrefix};
-ghost use Rattle.genotype_bank.specs.BankHistory.{entry, genotypes_of, calls_under};
+ghost use Rattle.genotype_bank.specs.BankHistory.{entry, genotypes_of, calls_under, all_shares};
 ghost use Rattle.genotype_bank.specs.Views.{idle_view, Carries};
 ghost use Rattle.genotype_bank.specs.BankSteps.{with_ticket, at_turn, last_drawn_number};
-ghost use Rattle.genotype_bank.specs.Catalog.{genomes_in, last_call};
-ghost use Rattle.genotype_bank.specs.Seats.{all_shares};
+ghost use Rattle.genotype_bank.specs.BankTable.{genomes_in, last_call};
 ghost use Rattle.genotype_bank.specs.declared.catalog.Catalog.{Catalog};
 ghost use Rattle.genotype_bank.specs.declared.view.Entry.{Entry};
 

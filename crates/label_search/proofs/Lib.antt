@@ -1,3 +1,4 @@
+pub mod Prelude
 pub mod PackedLemmas
 pub mod TemplateLemmas
 pub mod SearchLemmas

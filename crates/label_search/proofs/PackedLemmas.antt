@@ -1,17 +1,10 @@
 -- Templates packed into a number.
 use Rattle.std.proofs.Common.{◌≡◌, inl, inr, ◌∙◌, sym, ap, refl, ℕ, zero, suc, ◌+◌, ◌-◌, ◌*◌, ◌/◌, ◌%◌, ◌^◌, ◌<◌, ◌≤◌, List, [], ◌∷◌, ◌++◌, true, false, length, get_or, take, drop, reverse, arith, eq-eqb, pow-add}
 use Rattle.std.specs.Prelude.{◌==◌}
-use Rattle.std.specs.Bool.{Decides}
+use Rattle.label_search.proofs.Prelude.{Decides, common_steps, reverse-append, reverse-reverse, length-reverse, length-drop, length-take, take-append-drop, get_or-reverse, div-div-eq-div-mul, Letter, NopA, NopB, NopC, IsTemplate, is_nop, nops_read, digit_of_nop, nop_of, newest_first, packed_of, packed_after}
 use Rattle.std.proofs.lemmas.Bool.{cases_Bool}
-use Rattle.std.proofs.lemmas.Grind.{common_steps}
 use Rattle.std.proofs.lemmas.Nat.{mod-pow-add}
-use Rattle.std.proofs.lemmas.List.{reverse-append, reverse-reverse, length-reverse, length-drop, length-take, take-append-drop, get_or-reverse}
 use Rattle.std.proofs.Math.Seq.{drop-append_seam}
-use Rattle.std.proofs.Math.Nat.{div-div-eq-div-mul}
-use Rattle.instruction_set.specs.declared.letter.Letter.{Letter}
-use Rattle.instruction_set.specs.declared.letter.Letter.TheVariants.{NopA, NopB, NopC}
-use Rattle.label_search.specs.Template.{IsTemplate, is_nop, nops_read}
-use Rattle.label_search.specs.PackedTemplate.{digit_of_nop, nop_of, newest_first, packed_of, packed_after}
 
 -- each letter is a nop
 abbrev pub AreNops : List Letter → Type 0

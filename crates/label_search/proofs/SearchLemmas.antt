@@ -1,18 +1,8 @@
 -- The first place at which a template stands.
 use Rattle.std.proofs.Common.{◌-◌, zero, suc, true, false, arith, ◌≡◌, sym, ap, refl, ℕ, ◌+◌, ◌<◌, ◌≤◌, List, Bool, cond, length, take, drop, Option, Some, None, subst, inl, inr, length-drop, length-take, get_or}
 use Rattle.std.specs.Prelude.{◌&&◌}
-use Rattle.std.proofs.Math.Nat.{eq-or-lt_of_le}
-use Rattle.std.proofs.lemmas.List.{drop_more, get_or-take, length-map}
-use Rattle.std.specs.Cmp.Lexicographic.{pointwise}
-use Rattle.std.specs.Bool.{Decides}
-use Rattle.std.specs.List.{find, range_with_len}
+use Rattle.label_search.proofs.Prelude.{eq-or-lt_of_le, drop_more, get_or-take, length-map, pointwise, Decides, find, range_with_len, not_from_Decides, Letter, NopA, same_letter, same_letters, Site, letters_of, OccursAt, occurs_at, first_match}
 use Rattle.std.specs.Option.{MatchOption, IfSome}
-use Rattle.std.proofs.lemmas.Bool.Decides.{not_from_Decides}
-use Rattle.instruction_set.specs.declared.letter.Letter.{Letter}
-use Rattle.instruction_set.specs.declared.letter.Letter.TheVariants.{NopA}
-use Rattle.instruction_set.specs.Letter.{same_letter, same_letters}
-use Rattle.label_search.specs.Site.{Site, letters_of}
-use Rattle.label_search.specs.Search.{OccursAt, occurs_at, first_match}
 
 -- the search among the places from one on, where this place passes the test or not
 pub find-next : (test : ℕ → Bool) (place n : ℕ) (passes : Bool) → place < n → passes ≡ test place

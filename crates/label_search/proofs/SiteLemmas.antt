@@ -1,12 +1,7 @@
 -- A clean letter and two marks in one number.
 use Rattle.std.proofs.Common.{◌≡◌, ◌∙◌, sym, ap, refl, ℕ, ◌+◌, ◌*◌, ◌/◌, ◌%◌, ◌<◌, Bool, true, cond, Some, arith}
 use Rattle.std.specs.Prelude.{◌==◌}
-use Rattle.std.proofs.lemmas.Grind.{common_steps}
-use Rattle.instruction_set.specs.declared.letter.Letter.{Letter}
-use Rattle.instruction_set.specs.declared.letter.Letter.TheVariants.{NopA}
-use Rattle.instruction_set.specs.Letter.{index_of, letter_at}
-use Rattle.label_search.specs.Site.{Site}
-use Rattle.label_search.specs.PackedSite.{rest_of, clean_in, executed_in, copied_in, IsRest}
+use Rattle.label_search.proofs.Prelude.{common_steps, Letter, NopA, index_of, letter_at, Site, rest_of, clean_in, executed_in, copied_in, IsRest}
 
 -- there are fewer letters than a mark counts
 index-small : (letter : Letter) → index_of letter < 32

@@ -1,16 +1,8 @@
 -- Lists of letters, compared and read after a place.
 use Rattle.std.proofs.Common.{◌-◌, suc, true, false, arith, ◌≡◌, ◌∙◌, ap, refl, ℕ, ◌+◌, ◌%◌, ◌<◌, List, [], ◌∷◌, ◌++◌, Bool, length, append-nil, map, get_or}
-use Rattle.std.specs.List.{take_while, prefix_len, range_with_len}
 use Rattle.std.specs.Prelude.{unwrap_or}
-use Rattle.std.proofs.Math.Nat.{mod-add-mod}
-use Rattle.std.proofs.lemmas.Grind.{common_steps}
-use Rattle.std.proofs.lemmas.List.{length-map}
-use Rattle.instruction_set.specs.declared.letter.Letter.{Letter}
-use Rattle.instruction_set.specs.declared.letter.Letter.TheVariants.{NopA, NopB, NopC}
-use Rattle.instruction_set.specs.Letter.{complement_of}
+use Rattle.label_search.proofs.Prelude.{take_while, prefix_len, range_with_len, mod-add-mod, common_steps, length-map, Letter, NopA, NopB, NopC, complement_of, letters_of, is_nop, nops_read, letter_after}
 use Rattle.label_search.specs.declared.site.Site.{Site}
-use Rattle.label_search.specs.Site.{letters_of}
-use Rattle.label_search.specs.Template.{is_nop, nops_read, letter_after}
 
 -- a nop on a list that has room
 pub nops_read-room : (nops : List Letter) (letter : Letter) → is_nop letter ≡ true

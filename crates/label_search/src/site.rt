@@ -1,8 +1,7 @@
 // The places of memory, in two bytes each.
 ghost use Rattle.std.specs.Prelude.{◌≡◌, ◌<◌, true, length, slice_index_or};
 ghost use Rattle.instruction_set.specs.declared.letter.Letter.TheVariants.{NopA};
-ghost use Rattle.label_search.specs.PackedSite.{rest_of};
-ghost use Rattle.label_search.specs.Site.{letters_of};
+ghost use Rattle.label_search.specs.Site.{rest_of, letters_of};
 
 use instruction_set::Letter;
 use std::marker::Model;
@@ -22,7 +21,7 @@ impl Model for Site {
 
     ghost Value = { Place };
 
-    ghost use Rattle.label_search.specs.PackedSite.{place_of, rest_of, IsRest};
+    ghost use Rattle.label_search.specs.Site.{place_of, rest_of, IsRest};
 
     ghost view = { place_of };
 

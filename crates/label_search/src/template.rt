@@ -3,9 +3,8 @@ ghost use Rattle.std.specs.Prelude.{unwrap_or, slice_index_or, ◌≡◌, ◌+�
 ghost use Rattle.std.specs.Option.{option_copied};
 ghost use Rattle.instruction_set.specs.Letter.{same_letters, complement_of};
 ghost use Rattle.label_search.specs.Template as spec;
-ghost use Rattle.label_search.specs.Template.{is_nop, nops_read, complements_of, IsTemplate};
+ghost use Rattle.label_search.specs.Template.{is_nop, nops_read, complements_of, IsTemplate, newest_first, nop_of, packed_after};
 ghost use Rattle.label_search.specs.Site.{letters_of};
-ghost use Rattle.label_search.specs.PackedTemplate.{newest_first, nop_of, packed_after};
 ghost use Rattle.instruction_set.specs.declared.letter.Letter.TheVariants.{NopA};
 
 use crate::site::{Site, letter_at};
@@ -30,7 +29,7 @@ impl Model for Template {
 
     ghost Value = { List Letter };
 
-    ghost use Rattle.label_search.specs.PackedTemplate.{newest_first, nops_of, packed_of};
+    ghost use Rattle.label_search.specs.Template.{newest_first, nops_of, packed_of};
 
     ghost view = { nops_of };
 
@@ -40,7 +39,7 @@ impl Model for Template {
 impl Template {
     /// An empty list.
     #[inline(always)]
-    #[tactic(auto, unfolding(crate::specs::PackedTemplate::newest_first))]
+    #[tactic(auto, unfolding(crate::specs::Template::newest_first))]
     pub fn none() -> Template
         ensures { result ≡ [] }
     {
@@ -57,7 +56,7 @@ impl Template {
     }
 
     #[inline(always)]
-    #[tactic(auto, unfolding(crate::specs::PackedTemplate::newest_first))]
+    #[tactic(auto, unfolding(crate::specs::Template::newest_first))]
     pub fn is_empty(&self) -> bool
         ensures { IsTrue result ↔ (self.now ≡ []) }
     {

@@ -4,10 +4,9 @@ use Rattle.std.specs.Prelude.{filter_map, is_some, slice_get}
 use Rattle.std.specs.List.{cons_option}
 use Rattle.instruction_set.specs.declared.letter.Letter.{Letter}
 use Rattle.organism.specs.OrganismState.{OrganismState}
-use Rattle.landscape.specs.Trace.{organism_after, traced_organism}
+use Rattle.landscape.specs.Trials.{organism_after, traced_organism, trial_after, trial_at, trial_of, trials_from}
 use Rattle.organism.specs.TracedStep.{TracedStep, trace_step_of}
 use Rattle.landscape.specs.declared.first_divide.Trial.{Trial}
-use Rattle.landscape.specs.Trials.{trial_after, trial_at, trial_of, trials_from}
 use Rattle.landscape.proofs.RangeLemmas.{range_next}
 
 -- the first trial of the steps that are left

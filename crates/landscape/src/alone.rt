@@ -1,8 +1,8 @@
 // An organism alone, as a trace runs it.
 ghost use Rattle.std.specs.Prelude.{◌≡◌, IfOk, length};
 ghost use Rattle.genome.specs.Genome.{letters};
-ghost use Rattle.organism.specs.TraceRules.{trace_greatest};
-ghost use Rattle.landscape.specs.Trace.{organism_alone, traced_organism};
+ghost use Rattle.organism.specs.TracedStep.{trace_greatest};
+ghost use Rattle.landscape.specs.Trials.{organism_alone, traced_organism};
 
 use avida_port::Memory;
 use genome::{GREATEST_LENGTH, Genome};

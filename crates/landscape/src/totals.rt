@@ -1,6 +1,6 @@
 // What a survey comes to.
 ghost use Rattle.std.specs.Prelude.{◌≡◌, count_by, is_some};
-ghost use Rattle.landscape.specs.Totals.{better_than, has_better, has_same, totals_of};
+ghost use Rattle.landscape.specs.Landscape.{better_than, has_better, has_same, totals_of};
 
 use crate::entry::Entry;
 use crate::first_divide::Trial;
@@ -49,7 +49,7 @@ fn has_better(base: Option<Trial>, trial: Option<Trial>) -> bool
 
 impl Survey {
     /// What the survey comes to.
-    #[tactic(auto, unfolding(crate::specs::Totals::totals_of))]
+    #[tactic(auto, unfolding(crate::specs::Landscape::totals_of))]
     pub fn totals(&self) -> Totals
         ensures { result ≡ totals_of self.now }
     {

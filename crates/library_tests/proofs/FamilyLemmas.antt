@@ -4,9 +4,7 @@ use Rattle.std.specs.Prelude.{Contains, IsOk, IsSome, is_ok}
 use Rattle.std.proofs.lemmas.List.Elements.{All-cons, All-nil}
 use Rattle.instruction_set.specs.declared.letter.Letter.{Letter}
 use Rattle.mutations.specs.BirthRecord.{BirthRecord, child_of}
-use Rattle.lineage_log.specs.Links.{Link}
-use Rattle.lineage_log.specs.Ancestry.{kept_of, link_of}
-use Rattle.lineage_log.specs.Trees.{TreeValue, CanCome, founded_by, genome_in_tree, tree_with_death, tree_with_newcomer}
+use Rattle.lineage_log.specs.Ancestry.{Link, kept_of, link_of, TreeValue, CanCome, founded_by, genome_in_tree, tree_with_death, tree_with_newcomer}
 
 -- a child with its parent's genome
 abbrev pub child_in : TreeValue → ℕ → ℕ → ℕ → BirthRecord → Link

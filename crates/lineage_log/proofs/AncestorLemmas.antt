@@ -1,12 +1,7 @@
 -- The line of an id: itself, its parent, and so on, by a function that gives each id its parent.
 use Rattle.std.proofs.Common.{◌≡◌, ◌⊎◌, inl, inr, ⊎_elim, ◌∙◌, refl, sym, ap, ℕ, zero, suc, ◌+◌, ◌<◌, ◌≤◌, Bool, true, eqb, List, [], ◌∷◌, Option, Some, None, eq-eqb, eqb-true, arith}
 use Rattle.std.specs.Prelude.{Contains}
-use Rattle.std.specs.List.{list_any}
-use Rattle.std.specs.Option.{option_map_or}
-use Rattle.std.proofs.lemmas.Bool.{or_cases, or_right}
-use Rattle.std.proofs.lemmas.Grind.{common_steps}
-use Rattle.std.proofs.lemmas.List.Folds.{Any-from_list_any, list_any_at}
-use Rattle.lineage_log.specs.Ancestry.{ancestors_within}
+use Rattle.lineage_log.proofs.Prelude.{list_any, option_map_or, or_cases, or_right, common_steps, Any-from_list_any, list_any_at, ancestors_within}
 
 -- each parent has a lower id than its child
 abbrev pub Older : (ℕ → Option ℕ) → Type 0

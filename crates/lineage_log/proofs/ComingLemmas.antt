@@ -1,15 +1,7 @@
 -- What an organism that comes does to the nodes of a tree.
 use Rattle.std.proofs.Common.{◌≡◌, ◌≢◌, ◌⊎◌, inl, inr, ◌∙◌, refl, sym, ap, ℕ, ◌+◌, ◌<◌, ◌≤◌, true, cond, List, length, Some, None, nat_cmp, arith}
 use Rattle.std.specs.Prelude.{All, IsSome}
-use Rattle.std.specs.BTreeMap.{insert_entry, is_at}
-use Rattle.std.specs.Cmp.{nat_cmp_total}
-use Rattle.std.specs.List.Sorted.{IsStrictlySortedBy}
-use Rattle.std.specs.Map.{keys_of, set_value}
-use Rattle.std.proofs.lemmas.Map.Entries.{sum_by-insert_entry}
-use Rattle.std.proofs.lemmas.Bool.{cases_lt}
-use Rattle.lineage_log.specs.Links.{Link}
-use Rattle.lineage_log.specs.Trees.{CanCome, tree_with_newcomer}
-use Rattle.lineage_log.specs.Nodes.{NodeValue, AreFamilies, AreNodes, IsInFamily, as_child, children_of, links_of, node_at, node_link, tree_of}
+use Rattle.lineage_log.proofs.Prelude.{insert_entry, is_at, nat_cmp_total, IsStrictlySortedBy, keys_of, set_value, sum_by-insert_entry, cases_lt, Link, CanCome, tree_with_newcomer, NodeValue, AreFamilies, AreNodes, IsInFamily, as_child, children_of, links_of, node_at, node_link, tree_of}
 use Rattle.lineage_log.proofs.NodeLemmas.{by_key, child_apart, child_exists, child_is, children_few, founder_is, is_some_link, some_of}
 use Rattle.lineage_log.proofs.LivingLemmas.{insert_last, links_newcomer, links_set, living_newcomer, living_set, newest_above, none_newest}
 use Rattle.lineage_log.proofs.TreeLemmas.{IsSet, found_new, is_there, set_is, still_there}

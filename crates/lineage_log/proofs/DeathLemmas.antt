@@ -1,11 +1,7 @@
 -- After a death: nodes go one after another, up the line, as far as they are there in vain.
 use Rattle.std.proofs.Common.{◌≡◌, inl, inr, ⊎_elim, ◌∙◌, refl, sym, ap, subst, ℕ, ◌-◌, ◌<◌, ◌≤◌, suc, true, false, cond, ltb, ltb-true, ltb-false, List, [], ◌∷◌, Option, Some, None, nat_cmp, arith}
 use Rattle.std.specs.Prelude.{Contains, IfSome, IsSome, nat_eq}
-use Rattle.std.specs.BTreeMap.{insert_entry, is_at}
-use Rattle.std.specs.Map.{lookup, remove_entry, set_value}
-use Rattle.std.specs.Option.{option_map_or}
-use Rattle.std.proofs.lemmas.Bool.{cases_Bool, or_parts}
-use Rattle.lineage_log.specs.Nodes.{NodeValue, AreFamilies, AreNeededBut, AreNodes, IsSettled, id_order, is_needed, living_ids_of, node_at}
+use Rattle.lineage_log.proofs.Prelude.{insert_entry, is_at, lookup, remove_entry, set_value, option_map_or, cases_Bool, or_parts, NodeValue, AreFamilies, AreNeededBut, AreNodes, IsSettled, id_order, is_needed, living_ids_of, node_at}
 use Rattle.lineage_log.proofs.NodeLemmas.{Rises, by_key, some_of}
 use Rattle.lineage_log.proofs.OrderLemmas.{insert_is_set, order_finds, order_gone, order_put, order_rises}
 use Rattle.lineage_log.proofs.LivingLemmas.{lives_there}

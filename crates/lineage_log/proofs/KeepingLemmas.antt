@@ -1,14 +1,7 @@
 -- What is kept of all organisms ever, as some come and some die.
 use Rattle.std.proofs.Common.{◌≡◌, ◌↔◌, inl, inr, ◌∙◌, refl, ap, subst, ℕ, zero, suc, ◌<◌, Bool, true, cond, List, [], ◌∷◌, ◌++◌, get_or, Some, None, eq-eqb, ne_eqb, arith}
 use Rattle.std.specs.Prelude.{All, Contains, filter, filter_map, option_and_then}
-use Rattle.std.specs.Option.{option_map_or}
-use Rattle.std.proofs.lemmas.Bool.{cases_eq, cond-true}
-use Rattle.std.proofs.lemmas.Grind.{common_steps}
-use Rattle.std.proofs.lemmas.List.{reverse-append}
-use Rattle.std.proofs.lemmas.List.Elements.{filter-append}
-use Rattle.std.proofs.lemmas.List.Folds.{list_any-append}
-use Rattle.lineage_log.specs.Links.{Link}
-use Rattle.lineage_log.specs.Ancestry.{AreOlder, ancestor_ids_of, ancestors_within, is_in_line, is_kept, kept_of, line_of_descent, link_of, parent_of}
+use Rattle.lineage_log.proofs.Prelude.{option_map_or, cases_eq, cond-true, common_steps, reverse-append, filter-append, list_any-append, Link, AreOlder, ancestor_ids_of, ancestors_within, is_in_line, is_kept, kept_of, line_of_descent, link_of, parent_of}
 use Rattle.lineage_log.proofs.AncestorLemmas.{AreLeft, any_found, cases_Option, found_any, kept_parent, kept_living, line_is, same_ancestors}
 use Rattle.lineage_log.proofs.KeptLemmas.{filter_alike, find_left}
 

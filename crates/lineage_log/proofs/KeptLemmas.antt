@@ -2,16 +2,7 @@
 -- ancestors.
 use Rattle.std.proofs.Common.{◌≡◌, zero, eq-eqb, inl, inr, ◌∙◌, refl, sym, ap, ℕ, suc, ◌<◌, Bool, true, false, cond, List, [], ◌∷◌, ◌++◌, append_assoc, length, get_or, Option, Some, None, nat_cmp, arith}
 use Rattle.std.specs.Prelude.{All, Contains, IfSome, IsSome, filter, filter_map, is_some, option_and_then}
-use Rattle.std.specs.BTreeMap.{is_at}
-use Rattle.std.specs.Map.{set_value}
-use Rattle.std.specs.Option.{option_map_or}
-use Rattle.std.proofs.lemmas.Bool.{cases_Bool}
-use Rattle.std.proofs.lemmas.Bool.Decides.{nat_tests}
-use Rattle.std.proofs.lemmas.Grind.{common_steps}
-use Rattle.lineage_log.specs.Links.{Link}
-use Rattle.lineage_log.specs.Ancestry.{ancestor_ids_of, is_kept, kept_of, link_of, parent_of}
-use Rattle.lineage_log.specs.Trees.{IsPruned, genome_in_tree, tree_with_death, without_id}
-use Rattle.lineage_log.specs.Nodes.{NodeValue, AreFamilies, AreNeededBut, AreNodes, IsInFamily, children_of, links_of, living_ids_of, node_at, node_link, tree_of}
+use Rattle.lineage_log.proofs.Prelude.{is_at, set_value, option_map_or, cases_Bool, nat_tests, common_steps, Link, ancestor_ids_of, is_kept, kept_of, link_of, parent_of, IsPruned, genome_in_tree, tree_with_death, without_id, NodeValue, AreFamilies, AreNeededBut, AreNodes, IsInFamily, children_of, links_of, living_ids_of, node_at, node_link, tree_of}
 use Rattle.lineage_log.proofs.AncestorLemmas.{AreLeft, AreWanted, Older, kept_left, line_is, wanted_kept}
 use Rattle.lineage_log.proofs.NodeLemmas.{below_top, child_exists, is_some_link, link_there, node_told, parent_there, some_of, top_of}
 use Rattle.lineage_log.proofs.LivingLemmas.{links_set, lives_there, living_dead, there_lives}

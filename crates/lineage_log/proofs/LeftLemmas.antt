@@ -1,12 +1,6 @@
 -- What was given of a log, beside what is left.
 use Rattle.std.proofs.Common.{◌≡◌, ℕ, true, List, [], ◌∷◌, ◌++◌, Result, Ok, sym, ap, ◌∙◌}
-use Rattle.log_lines.specs.Line.{Line}
-use Rattle.lineage_log.specs.declared.log_stop.LogStop.{LogStop}
-use Rattle.lineage_log.specs.declared.log_reader.LogReader.{LogReader}
-use Rattle.lineage_log.specs.Order.{LogPlace, Before, told, told_all}
-use Rattle.lineage_log.specs.LogGrammar.{log_of, with_line}
-use Rattle.lineage_log.specs.LogReading.{IsAtStart, TellsNext, left_of}
-use Rattle.lineage_log.specs.Places.{place_of}
+use Rattle.lineage_log.proofs.Prelude.{Line, LogStop, LogReader, LogPlace, Before, told, told_all, log_of, with_line, IsAtStart, TellsNext, left_of, place_of}
 use Rattle.lineage_log.proofs.LogLaws.{went_on, place_is}
 use Rattle.lineage_log.proofs.ReadLemmas.{front_none, front_more, with_front}
 

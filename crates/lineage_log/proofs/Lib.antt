@@ -1,3 +1,4 @@
+pub mod Prelude
 pub mod LogLaws
 pub mod ReadLemmas
 pub mod ReadsLogLemmas

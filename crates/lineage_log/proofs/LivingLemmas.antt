@@ -1,17 +1,7 @@
 -- Who lives among the nodes of a tree, and what is left when a node comes, changes or goes.
 use Rattle.std.proofs.Common.{◌≡◌, inl, inr, ⊎_elim, ◌∙◌, refl, sym, ap, ℕ, zero, suc, ◌<◌, Bool, true, false, not, eqb, List, [], ◌∷◌, ◌++◌, Some, None, nat_cmp, Greater, arith}
 use Rattle.std.specs.Prelude.{All, Contains, filter}
-use Rattle.std.specs.BTreeMap.{insert_entry, is_at}
-use Rattle.std.specs.Cmp.{nat_cmp_is}
-use Rattle.std.specs.Map.{keys_of, remove_entry, set_value}
-use Rattle.std.proofs.lemmas.Bool.{cases_Bool, cond-true}
-use Rattle.std.proofs.lemmas.Bool.Decides.{nat_tests}
-use Rattle.std.proofs.lemmas.List.{map_push}
-use Rattle.std.proofs.lemmas.List.Elements.{filter-append}
-use Rattle.std.proofs.lemmas.Map.Keys.{sorted_tail}
-use Rattle.lineage_log.specs.Links.{Link}
-use Rattle.lineage_log.specs.Trees.{without_id}
-use Rattle.lineage_log.specs.Nodes.{NodeValue, links_of, living_ids_of, node_at, node_link}
+use Rattle.lineage_log.proofs.Prelude.{insert_entry, is_at, nat_cmp_is, keys_of, remove_entry, set_value, cases_Bool, cond-true, nat_tests, map_push, filter-append, sorted_tail, Link, without_id, NodeValue, links_of, living_ids_of, node_at, node_link}
 use Rattle.lineage_log.proofs.AncestorLemmas.{cases_Option}
 use Rattle.lineage_log.proofs.NodeLemmas.{Rises, by_key, first_node, other_node, none_behind, behind_first}
 

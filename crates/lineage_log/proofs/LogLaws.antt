@@ -2,19 +2,8 @@
 -- of a good one.
 use Rattle.std.proofs.Common.{◌≡◌, ℕ, ◌+◌, List, [], ◌∷◌, Option, Some, Result, Ok, Err, refl, ◌∙◌, arith, append_assoc, inl, inr}
 use Rattle.std.specs.Prelude.{◌==◌}
-use Rattle.std.specs.List.{slice_split, onto_first, AllByRecursion, join_with_byte}
-use Rattle.std.proofs.lemmas.Bool.{cases_Bool}
+use Rattle.lineage_log.proofs.Prelude.{slice_split, onto_first, AllByRecursion, join_with_byte, cases_Bool, Line, HasForm, row_text, line_of, OneSpelling, split_first, LogStop, Reason, Reader, LogPlace, Before, After, told, and_on, told_all, IsWhole, last_piece, one_piece, pieces_log, log_of, lines_text, IsGoodLog}
 use Rattle.std.proofs.lemmas.List.Splits.{join_with_byte-slice_split}
-use Rattle.log_lines.specs.Line.{Line}
-use Rattle.log_lines.specs.LineText.{HasForm, row_text}
-use Rattle.log_lines.specs.LineReading.{line_of}
-use Rattle.log_lines.specs.LineSpelling.{OneSpelling}
-use Rattle.log_lines.proofs.FieldLaws.{split_first}
-use Rattle.lineage_log.specs.declared.log_stop.LogStop.{LogStop}
-use Rattle.lineage_log.specs.declared.reason.Reason.{Reason}
-use Rattle.lineage_log.specs.Reader.{Reader}
-use Rattle.lineage_log.specs.Order.{LogPlace, Before, After, told, and_on, told_all, IsWhole}
-use Rattle.lineage_log.specs.LogGrammar.{last_piece, one_piece, pieces_log, log_of, lines_text, IsGoodLog}
 
 -- the pieces between newlines
 abbrev pub cut : List ℕ → List (List ℕ)

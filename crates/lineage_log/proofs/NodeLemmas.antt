@@ -2,24 +2,9 @@
 -- it.
 use Rattle.std.proofs.Common.{◌≡◌, ◌≢◌, ◌⊎◌, inl, inr, ⊎_elim, ◌∙◌, refl, sym, ap, ℕ, suc, ◌+◌, ◌<◌, ◌≤◌, true, false, List, [], ◌∷◌, length, Option, Some, None, nat_cmp, eq-eqb, ne_eqb, arith}
 use Rattle.std.specs.Prelude.{◌==◌, if◌then◌else◌, is_some, slice_get}
-use Rattle.std.specs.BTreeMap.{is_at}
-use Rattle.std.specs.Cmp.{nat_cmp_total, unsigned_tied}
-use Rattle.std.specs.List.{sum_by}
-use Rattle.std.specs.List.Sorted.{IsStrictlySortedBy}
-use Rattle.std.specs.Map.{keys_of, values_of}
-use Rattle.std.specs.Option.{option_map, option_map_or, unwrap_or}
-use Rattle.std.specs.Ordering.{eq_by_cmp}
-use Rattle.std.proofs.lemmas.Bool.{cases_eq, cases_lt}
-use Rattle.std.proofs.lemmas.Bool.Decides.{nat_tests}
-use Rattle.std.proofs.lemmas.Cmp.{eq_by_cmp_equiv}
-use Rattle.std.proofs.lemmas.Grind.{common_steps}
+use Rattle.lineage_log.proofs.Prelude.{is_at, nat_cmp_total, unsigned_tied, sum_by, IsStrictlySortedBy, keys_of, values_of, option_map, option_map_or, unwrap_or, eq_by_cmp, cases_eq, cases_lt, nat_tests, eq_by_cmp_equiv, common_steps, lookup-none, lookup_from_place, none_past_head, sum_by-remove_entry, IsDistinct-from_sorted, link_of, parent_of, NodeValue, as_child, children_of, links_of, node_at, node_link}
 use Rattle.std.proofs.lemmas.List.Sums.{sum_by-cons}
-use Rattle.std.proofs.lemmas.Map.{lookup-none}
-use Rattle.std.proofs.lemmas.Map.Entries.{lookup_from_place, none_past_head, sum_by-remove_entry}
-use Rattle.std.proofs.lemmas.Map.Keys.{IsDistinct-from_sorted}
-use Rattle.lineage_log.specs.Ancestry.{link_of, parent_of}
 use Rattle.lineage_log.proofs.AncestorLemmas.{cases_Option}
-use Rattle.lineage_log.specs.Nodes.{NodeValue, as_child, children_of, links_of, node_at, node_link}
 
 -- the ids rise
 abbrev pub Rises : List (ℕ × NodeValue) → Type 0

@@ -1,17 +1,7 @@
 -- Nodes in order of their ids: what is found there, whatever order they are kept in.
 use Rattle.std.proofs.Common.{◌≡◌, ◌≢◌, ◌⊎◌, inl, inr, ⊎_elim, ◌∙◌, refl, sym, ap, subst, ℕ, ◌+◌, ◌<◌, ◌≤◌, true, false, cond, List, [], ◌∷◌, length, Option, Some, None, nat_cmp, Less, Equal, Greater, arith}
 use Rattle.std.specs.Prelude.{IsSome, nat_eq}
-use Rattle.std.specs.BTreeMap.{insert_entry, is_at}
-use Rattle.std.specs.Cmp.{nat_cmp_is, nat_cmp_total, ranked, unsigned_tied}
-use Rattle.std.specs.List.{AllByRecursion, IsDistinct}
-use Rattle.std.specs.Map.{keys_of, lookup, remove_entry, set_value}
-use Rattle.std.specs.Ordering.{eq_by_cmp, is_eq}
-use Rattle.std.specs.List.Sorted.{IsStrictlySortedBy}
-use Rattle.std.proofs.lemmas.Cmp.{eq_by_cmp_equiv, nat_eq_equiv}
-use Rattle.std.proofs.lemmas.Map.{lookup-none, lookup-remove_entry, lookup-set_value}
-use Rattle.std.proofs.lemmas.Map.Entries.{none_below_head}
-use Rattle.std.proofs.lemmas.Map.Keys.{IsDistinct-from_sorted, IsDistinct-head, IsDistinct-tail, sorted_head, sorted_tail}
-use Rattle.lineage_log.specs.Nodes.{NodeValue, AreNodes, id_order, node_at}
+use Rattle.lineage_log.proofs.Prelude.{insert_entry, is_at, nat_cmp_is, nat_cmp_total, ranked, unsigned_tied, AllByRecursion, IsDistinct, keys_of, lookup, remove_entry, set_value, eq_by_cmp, is_eq, IsStrictlySortedBy, eq_by_cmp_equiv, nat_eq_equiv, lookup-none, lookup-remove_entry, lookup-set_value, none_below_head, IsDistinct-from_sorted, IsDistinct-head, IsDistinct-tail, sorted_head, sorted_tail, NodeValue, AreNodes, id_order, node_at}
 use Rattle.lineage_log.proofs.NodeLemmas.{Rises, by_key, first_node, none_behind, other_node}
 
 -- how two ids compare, and what the order answers

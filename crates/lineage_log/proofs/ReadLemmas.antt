@@ -1,21 +1,10 @@
 -- The loop over the pieces of a log.
 use Rattle.std.proofs.Common.{◌≡◌, ℕ, ◌+◌, List, [], ◌∷◌, ◌++◌, Option, Some, None, Result, Ok, Err, Bor, refl, sym, ap, ◌∙◌, append_assoc}
 use Rattle.std.specs.Prelude.{◌≢◌, ◌↔◌, option_copied}
-use Rattle.log_lines.specs.Line.{Line}
-use Rattle.log_lines.specs.LineReading.{line_of}
+use Rattle.lineage_log.proofs.Prelude.{Line, line_of, Reason, Refusal, LogStop, LogPlace, told, LogReader, TellsPiece, left_of, place_of, Tells, stop_of, stop_at, with_line, one_piece, pieces_log, log_of, lines_text, Reads, IsGoodLog}
 use Rattle.log_lines.specs.Words.{pieces_of}
-use Rattle.lineage_log.specs.declared.reason.Reason.{Reason}
-use Rattle.lineage_log.specs.declared.refusal.Refusal.{Refusal}
 use Rattle.lineage_log.specs.declared.refusal.Refusal.TheVariants.{Memory, Faulty}
-use Rattle.lineage_log.specs.declared.log_stop.LogStop.{LogStop}
 use Rattle.lineage_log.specs.declared.log_stop.LogStop.TheVariants as wanting
-use Rattle.lineage_log.specs.Order.{LogPlace, told}
-use Rattle.lineage_log.specs.declared.log_reader.LogReader.{LogReader}
-use Rattle.lineage_log.specs.LogReading.{TellsPiece, left_of}
-use Rattle.lineage_log.specs.Places.{place_of}
-use Rattle.lineage_log.specs.Readings.{Tells}
-use Rattle.lineage_log.specs.LogGrammar.{stop_at, with_line, one_piece, pieces_log, log_of, lines_text, Reads, IsGoodLog}
-use Rattle.lineage_log.specs.LogValues.{stop_of}
 use Rattle.lineage_log.proofs.LogLaws.{cut, cut_some}
 
 -- lines before those that are read

@@ -1,21 +1,10 @@
 -- The bytes of a log are read as what `log_of` gives, and as nothing else.
 use Rattle.std.proofs.Common.{◌≡◌, ℕ, ◌+◌, List, [], ◌∷◌, ◌++◌, length, Option, Some, None, Result, Ok, Err, refl, subst, arith, append_assoc, ◌⊎◌, inl, inr}
 use Rattle.std.specs.Prelude.{◌==◌, ◌≢◌}
-use Rattle.std.specs.List.{AllByRecursion}
-use Rattle.std.proofs.lemmas.Bool.{cases_Bool}
-use Rattle.std.proofs.lemmas.Bool.Decides.{nat_tests}
-use Rattle.log_lines.specs.Line.{Line}
-use Rattle.log_lines.specs.LineText.{HasForm, line_text, row_text}
-use Rattle.log_lines.specs.LineReading.{line_of}
-use Rattle.log_lines.specs.LineSpelling.{OneSpelling}
-use Rattle.log_lines.proofs.FieldLaws.{split_first}
-use Rattle.lineage_log.specs.declared.log_stop.LogStop.{LogStop}
+use Rattle.lineage_log.proofs.Prelude.{AllByRecursion, cases_Bool, nat_tests, Line, HasForm, line_text, row_text, line_of, OneSpelling, split_first, LogStop, Reason, LogPlace, Before, Within, After, IsWhole, told, told_all, log_of, pieces_log, with_line, BeginsWith, IsFaulty, ReadsLog}
 use Rattle.lineage_log.specs.declared.log_stop.LogStop.TheVariants as stop
-use Rattle.lineage_log.specs.declared.reason.Reason.{Reason}
 use Rattle.lineage_log.specs.declared.reason.Reason.TheVariants as reason
-use Rattle.lineage_log.specs.Order.{LogPlace, Before, Within, After, IsWhole, told, told_all}
-use Rattle.lineage_log.specs.LogGrammar.{log_of, pieces_log, with_line}
-use Rattle.lineage_log.specs.ReadsLog.{BeginsWith, IsFaulty, ReadsLog, lines_text, stop_at}
+use Rattle.lineage_log.specs.ReadsLog.{lines_text, stop_at}
 use Rattle.lineage_log.proofs.LogLaws.{cut, cut_some, place_is, read_back, went_on}
 use Rattle.lineage_log.proofs.ReadLemmas.{bad_line, bad_order, front_none, good_line, with_front}
 

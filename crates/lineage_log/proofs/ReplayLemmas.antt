@@ -1,21 +1,9 @@
 -- What a reader has kept of a log is who lives at its end.
 use Rattle.std.proofs.Common.{◌≡◌, ℕ, zero, suc, mul-le-mul, ◌+◌, ◌≤◌, Bool, true, List, [], ◌∷◌, ◌++◌, Option, Some, None, Ok, length, refl, sym, subst, ◌∙◌, arith}
 use Rattle.std.specs.Prelude.{◌==◌, ◌&&◌, ◌*◌, slice_get, slice_set, unwrap_or}
-use Rattle.std.proofs.lemmas.Bool.{and_parts, eqb-true}
-use Rattle.std.proofs.lemmas.Bool.Decides.{nat_tests}
-use Rattle.std.proofs.lemmas.List.{length-append, length-replicate, length-set}
-use Rattle.std.proofs.lemmas.Option.{slice_get-map}
-use Rattle.instruction_set.specs.declared.letter.Letter.{Letter}
-use Rattle.mutations.specs.BirthRecord.{BirthRecord, child_of}
-use Rattle.log_lines.specs.Line.{Line, Start, Death, Birth, Injected, Cleared, Rate, Count, End}
+use Rattle.lineage_log.proofs.Prelude.{and_parts, eqb-true, nat_tests, length-append, length-replicate, length-set, slice_get-map, Letter, BirthRecord, child_of, Line, Start, Death, Birth, Injected, Cleared, Rate, Count, End, holds, Reader, reader_with_newcomer, reader_with_death, EachIsKept, kept_genomes, LogPlace, Before, Within, After, within_if, opened, told_start, told_death, told_birth, told_injected, told_cleared, told_rate, told_count, told_end, told, told_all, IsGoodLog, Seen, seen_on, seen_all, residents_from, replay_of}
 use Rattle.lineage_log.specs.declared.stage.Stage.{Stage}
 use Rattle.lineage_log.specs.declared.stage.Stage.TheVariants.{Dying, Placing, Happening}
-use Rattle.lineage_log.specs.Slots.{holds}
-use Rattle.lineage_log.specs.Reader.{Reader, reader_with_newcomer, reader_with_death}
-use Rattle.lineage_log.specs.Order.{LogPlace, Before, Within, After, within_if, opened, told_start, told_death, told_birth, told_injected, told_cleared, told_rate, told_count, told_end, told, told_all}
-use Rattle.lineage_log.specs.LogGrammar.{IsGoodLog}
-use Rattle.lineage_log.specs.Replay.{Seen, seen_on, seen_all, residents_from, replay_of}
-use Rattle.lineage_log.specs.Residents.{EachIsKept, kept_genomes}
 use Rattle.lineage_log.proofs.LogLaws.{went_on, place_is}
 use Rattle.lineage_log.proofs.StandingLemmas.{get_written, get_pushed, get_before, get_last, empty, none_there, People, length_without, kept_before, IsTidy, tidy_death, tidy_newcomer, tidy_renewed}
 

@@ -1,10 +1,7 @@
 -- Walks over the cells at the end of a log.
 use Rattle.std.proofs.Common.{◌≡◌, ℕ, drop, add-one, ◌+◌, List, [], ◌∷◌, ◌++◌, Option, Some, None, refl, sym, ap, append_assoc, ◌∙◌}
 use Rattle.std.specs.Prelude.{slice_get}
-use Rattle.std.proofs.lemmas.List.{drop_more}
-use Rattle.std.proofs.lemmas.Option.{slice_get_within, get_or_from_slice_get}
-use Rattle.instruction_set.specs.declared.letter.Letter.{Letter}
-use Rattle.lineage_log.specs.Replay.{Resident, resident_at, residents_from}
+use Rattle.lineage_log.proofs.Prelude.{drop_more, slice_get_within, get_or_from_slice_get, Letter, Resident, resident_at, residents_from}
 
 -- what is left begins with the item at this place
 drop_is : {A : Type 0} (xs : List A) (i : ℕ) (x : A) → slice_get xs i ≡ Some x

@@ -1,11 +1,7 @@
 -- Who stands in the cells stands there alone, is kept, and is none of those who died.
 use Rattle.std.proofs.Common.{◌≡◌, ℕ, zero, suc, ◌<◌, List, [], ◌∷◌, ◌++◌, Option, Some, None, length, refl, sym, ap, ◌∙◌, arith, inl, inr}
 use Rattle.std.specs.Prelude.{◌≢◌, ◌⊎◌, replicate, slice_get, slice_set, fold}
-use Rattle.std.specs.List.{AllByRecursion}
-use Rattle.std.specs.Option.{option_to_list}
-use Rattle.std.proofs.lemmas.List.{length-append, length-set}
-use Rattle.std.proofs.lemmas.Option.{slice_get_within}
-use Rattle.instruction_set.specs.declared.letter.Letter.{Letter}
+use Rattle.lineage_log.proofs.Prelude.{AllByRecursion, option_to_list, length-append, length-set, slice_get_within, Letter}
 
 -- ---- lists
 

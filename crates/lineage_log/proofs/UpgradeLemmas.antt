@@ -1,12 +1,6 @@
 -- A good log with version 2 in its first line is a good log: version 2 has all that version 1 has.
 use Rattle.std.proofs.Common.{◌≡◌, ℕ, List, [], ◌∷◌, Ok, arith}
-use Rattle.instruction_set.specs.declared.letter.Letter.{Letter}
-use Rattle.log_lines.specs.Line.{Line, Start, Death, Birth, Injected, Cleared, Rate, Count, End}
-use Rattle.log_lines.specs.LineText.{HasForm}
-use Rattle.lineage_log.specs.Reader.{Reader}
-use Rattle.lineage_log.specs.Order.{LogPlace, Before, Within, After, told_start, told_death, told_birth, told_injected, told_cleared, told_rate, told_count, told_end, told, told_all, IsWhole}
-use Rattle.lineage_log.specs.LogGrammar.{IsGoodLog}
-use Rattle.lineage_log.specs.Upgrade.{newer, upgraded}
+use Rattle.lineage_log.proofs.Prelude.{Letter, Line, Start, Death, Birth, Injected, Cleared, Rate, Count, End, HasForm, Reader, LogPlace, Before, Within, After, told_start, told_death, told_birth, told_injected, told_cleared, told_rate, told_count, told_end, told, told_all, IsWhole, IsGoodLog, newer, upgraded}
 use Rattle.lineage_log.proofs.LogLaws.{went_on, whole_is}
 
 -- a reader of the last version

@@ -1,9 +1,7 @@
 -- What a reader answers for the bytes of a log: its lines, or the first faulty one (docs/FORMATS.md,
 -- "The log"). ReadsLog says the same without the way of the reading.
 use Rattle.std.specs.Prelude.{◌≡◌, ℕ, ◌+◌, List, [], ◌∷◌, Option, Some, None, Result, Ok, Err, ◌==◌}
-use Rattle.std.specs.List.{slice_split}
-use Rattle.log_lines.specs.Line.{Line}
-use Rattle.log_lines.specs.LineReading.{line_of}
+use Rattle.lineage_log.specs.Prelude.{slice_split, Line, Start, line_of}
 use Rattle.lineage_log.specs.declared.log_stop.LogStop.{LogStop}
 use Rattle.lineage_log.specs.declared.log_stop.LogStop.TheVariants as stop
 use Rattle.lineage_log.specs.declared.reason.Reason.{Reason}
@@ -49,3 +47,13 @@ log_of bytes = pieces_log 1 Before (slice_split (λ b. b == 10) bytes)
 -- the bytes are read as this list
 abbrev pub Reads : List ℕ → List Line → Type 0
 Reads bytes lines = log_of bytes ≡ Ok lines
+
+-- a first line with version 2
+abbrev pub newer : Line → Line
+newer (Start version width height cell genome) = Start 2 width height cell genome
+newer line = line
+
+-- the list with version 2 in its first line
+abbrev pub upgraded : List Line → List Line
+upgraded [] = []
+upgraded (line ∷ lines) = newer line ∷ lines

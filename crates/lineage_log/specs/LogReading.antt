@@ -1,16 +1,22 @@
--- Reading a log line by line (docs/FORMATS.md, "The log").
+-- Reading a log line by line, and where its reader stands (docs/FORMATS.md, "The log").
+use Rattle.lineage_log.specs.Prelude.{slice_split, Line, line_values, LogLine}
+use Rattle.lineage_log.specs.declared.place.LogPlace as code
+use Rattle.lineage_log.specs.declared.place.LogPlace.TheVariants as place
+use Rattle.lineage_log.specs.Readings.{reader_of}
+use Rattle.lineage_log.specs.Order.{LogPlace, Before, Within, After, told, IsWhole}
 use Rattle.std.specs.Prelude.{◌≡◌, ◌≢◌, ℕ, ◌<◌, List, [], length, Option, Some, None, Result, Ok, Err, Bool, true, false, ⊤, ◌==◌}
-use Rattle.std.specs.List.{slice_split}
-use Rattle.log_lines.specs.Line.{Line, line_values}
-use Rattle.log_lines.specs.declared.log_line.LogLine.{LogLine}
 use Rattle.lineage_log.specs.declared.log_stop.LogStop.{LogStop}
 use Rattle.lineage_log.specs.declared.log_stop.LogStop.TheVariants as stop
 use Rattle.lineage_log.specs.declared.log_reader.LogReader.{LogReader}
 use Rattle.lineage_log.specs.declared.refusal.Refusal.{Refusal}
 use Rattle.lineage_log.specs.declared.refusal.Refusal.TheVariants.{Memory, Faulty}
-use Rattle.lineage_log.specs.Order.{LogPlace, Before, told, IsWhole}
 use Rattle.lineage_log.specs.LogGrammar.{pieces_log, with_line}
-use Rattle.lineage_log.specs.Places.{place_of}
+
+-- the place of a reader
+abbrev pub place_of : code.LogPlace → LogPlace
+place_of place.Before = Before
+place_of (place.Within r) = Within (reader_of r)
+place_of (place.After r) = After (reader_of r)
 
 -- what the rest of a log gives
 abbrev pub left_of : LogReader → Result (List Line) LogStop

@@ -1,16 +1,11 @@
 -- The nodes of a tree, as they are kept: under each id an organism, with the number of its children
 -- that are nodes.
 use Rattle.std.specs.Prelude.{◌≡◌, ◌≢◌, ℕ, ◌<◌, ◌==◌, ◌||◌, nat_eq, nat_lt, Bool, false, List, [], ◌∷◌, filter, map, if◌then◌else◌, Option, None, Some, IsSome}
+use Rattle.lineage_log.specs.Prelude.{sum_by, keys_of, values_of, lookup, option_map_or, Letter, BirthRecord}
 use Rattle.std.specs.BTreeMap.{insert_entry, is_at}
-use Rattle.std.specs.List.{sum_by}
 use Rattle.std.specs.List.Sorted.{IsStrictlySortedBy}
-use Rattle.std.specs.Map.{keys_of, values_of, lookup}
-use Rattle.std.specs.Option.{option_map_or}
 use Rattle.std.specs.Ordering.{nat_cmp}
-use Rattle.instruction_set.specs.declared.letter.Letter.{Letter}
-use Rattle.mutations.specs.BirthRecord.{BirthRecord}
-use Rattle.lineage_log.specs.Links.{Link}
-use Rattle.lineage_log.specs.Trees.{TreeValue}
+use Rattle.lineage_log.specs.Ancestry.{Link, TreeValue}
 
 -- an organism without its id, how many of its children are nodes, and whether it lives
 pub record NodeValue : Type 0 where

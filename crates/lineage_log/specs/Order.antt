@@ -1,15 +1,12 @@
 -- The order of the lines of a log (docs/FORMATS.md, "The log").
 use Rattle.std.specs.Prelude.{ℕ, ◌+◌, ◌*◌, List, [], ◌∷◌, length, replicate, Option, Some, None, Result, Ok, Err, Bool, nat_lt, ◌==◌, ◌&&◌, if◌then◌else◌, slice_get, slice_set, fold}
-use Rattle.instruction_set.specs.declared.letter.Letter.{Letter}
-use Rattle.mutations.specs.BirthRecord.{BirthRecord, child_of}
+use Rattle.lineage_log.specs.Prelude.{Letter, BirthRecord, child_of, Line, Start, Death, Birth, Injected, Cleared, Rate, Count, End}
 use Rattle.mutations.specs.declared.stop.ApplyStop.{ApplyStop}
 use Rattle.log_lines.specs.declared.stats.Stats.{Stats}
-use Rattle.log_lines.specs.Line.{Line, Start, Death, Birth, Injected, Cleared, Rate, Count, End}
 use Rattle.lineage_log.specs.declared.reason.Reason.{Reason}
 use Rattle.lineage_log.specs.declared.reason.Reason.TheVariants.{BadOrder, UnknownParent, BadChange}
 use Rattle.lineage_log.specs.declared.stage.Stage.TheVariants.{Quiet, Dying, Placing, Happening}
-use Rattle.lineage_log.specs.Slots.{holds, taken}
-use Rattle.lineage_log.specs.Reader.{Reader, may_die, may_be_born, is_quiet, parent_in, reader_with_newcomer, reader_with_death}
+use Rattle.lineage_log.specs.Reader.{holds, taken, Reader, may_die, may_be_born, is_quiet, parent_in, reader_with_newcomer, reader_with_death}
 
 -- before the first line, within the log, or after the last line
 pub data LogPlace : Type 0 where

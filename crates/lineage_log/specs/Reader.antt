@@ -1,9 +1,30 @@
--- What is known of a log between two of its lines (docs/FORMATS.md, "The log").
-use Rattle.std.specs.Prelude.{ℕ, List, [], ◌∷◌, ◌++◌, length, Option, Some, None, Bool, true, false, nat_lt, slice_set, option_and_then, slice_get, if◌then◌else◌}
-use Rattle.std.specs.Option.{option_to_list}
-use Rattle.instruction_set.specs.declared.letter.Letter.{Letter}
+-- What is known of a log between two of its lines: who stands in each cell, and the genomes that
+-- the reader keeps (docs/FORMATS.md, "The log").
+use Rattle.std.specs.Prelude.{ℕ, List, Option, Some, None, Bool, true, false, ◌==◌, count_by, is_some, ◌≡◌, [], map, IsSome, option_and_then, slice_get, unwrap_or, ◌∷◌, ◌++◌, length, nat_lt, slice_set, if◌then◌else◌}
+use Rattle.lineage_log.specs.Prelude.{Letter, option_to_list}
 use Rattle.lineage_log.specs.declared.stage.Stage.{Stage}
 use Rattle.lineage_log.specs.declared.stage.Stage.TheVariants.{Quiet, Dying, Happening}
+
+-- the cell is there, and this stands in it
+abbrev pub holds : Option (Option ℕ) → Option ℕ → Bool
+holds (Some None) None = true
+holds (Some (Some a)) (Some b) = a == b
+holds _ _ = false
+
+-- how many cells are taken
+abbrev pub taken : List (Option ℕ) → ℕ
+taken slots = count_by is_some slots
+
+-- by id the genomes that are kept
+abbrev pub kept_genomes : List (Option (List Letter)) → List (List Letter)
+kept_genomes people = map (λ found. unwrap_or found []) people
+
+-- the genome of each who stands in a cell is kept
+abbrev pub EachIsKept : List (Option ℕ) → List (Option (List Letter)) → Type 0
+EachIsKept standing people =
+    (cell id : ℕ)
+    → slice_get standing cell ≡ Some (Some id)
+    → IsSome (option_and_then (λ found. found) (slice_get people id))
 
 -- `people` has by id the genomes of the living and the update's dead, `newest` its first new id
 pub record Reader : Type 0 where

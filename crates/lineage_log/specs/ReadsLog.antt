@@ -2,8 +2,7 @@
 -- fault behind good lines. For example, behind a first line `E 5` and a newline are out of order in
 -- line 2, since no update has its end yet, and `E 0` without a newline is a bad line.
 use Rattle.std.specs.Prelude.{◌≡◌, ◌≢◌, ◌+◌, ℕ, List, [], ◌++◌, flat_map, length, Result, Ok, Err}
-use Rattle.std.specs.List.{AllByRecursion}
-use Rattle.log_lines.specs.Line.{Line}
+use Rattle.lineage_log.specs.Prelude.{AllByRecursion, Line}
 use Rattle.log_lines.specs.LineText.{HasForm, line_text}
 use Rattle.lineage_log.specs.declared.log_stop.LogStop.{LogStop}
 use Rattle.lineage_log.specs.declared.log_stop.LogStop.TheVariants as stop

@@ -1,9 +1,12 @@
--- Who lives at the end of a log (docs/FORMATS.md, "The log").
-use Rattle.std.specs.Prelude.{ℕ, suc, ◌*◌, List, [], ◌∷◌, ◌++◌, replicate, Option, Some, None, slice_get, slice_set, option_and_then, unwrap_or}
+-- Who lives at the end of a log, and of the bytes of one (docs/FORMATS.md, "The log").
+use Rattle.std.specs.Prelude.{ℕ, suc, ◌*◌, List, [], ◌∷◌, ◌++◌, replicate, Option, Some, None, slice_get, slice_set, option_and_then, unwrap_or, ◌≡◌, ◌≢◌, Result, Ok, Err}
+use Rattle.lineage_log.specs.Prelude.{Letter, BirthRecord, child_of, Line, Start, Death, Birth, Injected, Cleared}
 use Rattle.std.specs.Result.{result_ok}
-use Rattle.instruction_set.specs.declared.letter.Letter.{Letter}
-use Rattle.mutations.specs.BirthRecord.{BirthRecord, child_of}
-use Rattle.log_lines.specs.Line.{Line, Start, Death, Birth, Injected, Cleared}
+use Rattle.lineage_log.specs.declared.log_stop.LogStop.{LogStop}
+use Rattle.lineage_log.specs.declared.log_stop.LogStop.TheVariants as stop
+use Rattle.lineage_log.specs.declared.reader.Reader as code
+use Rattle.lineage_log.specs.Order.{Before, After, told_all}
+use Rattle.lineage_log.specs.Readings.{reader_of}
 
 -- who stands in each cell, and the genome of every id so far
 pub record Seen : Type 0 where
@@ -63,3 +66,15 @@ replay_of lines =
     let nobody : Seen = record { standing = []; genomes = [] } in
     let seen = seen_all nobody lines in
     residents_from 0 seen.standing seen.genomes
+
+-- who lives at the end of what was read, or why it was not read
+abbrev pub living_residents_of : Result (List Line) LogStop → Result (List Resident) LogStop
+living_residents_of (Ok lines) = Ok (replay_of lines)
+living_residents_of (Err e) = Err e
+
+-- the reader that a log leaves, or why the bytes are none; running out of memory says nothing
+abbrev pub LeavesReader : Result code.Reader LogStop → Result (List Line) LogStop → Type 0
+LeavesReader (Ok reader) read =
+    (lines : List Line) × (read ≡ Ok lines)
+    × (told_all Before lines ≡ Ok (After (reader_of reader)))
+LeavesReader (Err e) read = e ≢ stop.Memory → read ≡ Err e

@@ -1,8 +1,7 @@
 // The genome of a child.
 ghost use Rattle.std.specs.Prelude.{◌≡◌, [], None, Some, IsTrue};
-ghost use Rattle.genome.specs.Genome.{letters};
-ghost use Rattle.mutations.specs.BirthRecord.{record_of};
-ghost use Rattle.lineage_log.specs.Children.{MakesChild};
+ghost use Rattle.lineage_log.specs.Prelude.{letters, record_of};
+ghost use Rattle.lineage_log.specs.Readings.{MakesChild};
 
 use crate::reason::Reason;
 use crate::refusal::Refusal;

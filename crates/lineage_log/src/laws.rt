@@ -1,9 +1,7 @@
 ghost use Rattle.std.specs.Prelude.{ℕ, ◌≡◌, ◌<◌, ◌↔◌, ◌++◌, ◌∷◌, [], All, Contains, List, Result, Some};
-ghost use Rattle.std.specs.Option.{option_map_or};
-ghost use Rattle.log_lines.specs.Line.{Line};
+ghost use Rattle.lineage_log.specs.Prelude.{option_map_or, Line};
 ghost use Rattle.lineage_log.specs.declared.log_stop.LogStop.{LogStop};
-ghost use Rattle.lineage_log.specs.Ancestry.{AreOlder, kept_of, line_of_descent, link_of};
-ghost use Rattle.lineage_log.specs.Links.{Link};
+ghost use Rattle.lineage_log.specs.Ancestry.{AreOlder, kept_of, line_of_descent, link_of, Link};
 ghost use Rattle.lineage_log.specs.LogGrammar.{IsGoodLog, Reads, lines_text, log_of};
 ghost use Rattle.lineage_log.specs.ReadsLog.{ReadsLog};
 

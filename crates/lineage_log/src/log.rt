@@ -1,9 +1,8 @@
 // A good log.
 ghost use Rattle.std.specs.Prelude.{◌≡◌, length, option_map, slice_get};
-ghost use Rattle.log_lines.specs.Line.{line_values};
-ghost use Rattle.lineage_log.specs.LogGrammar.{IsGoodLog};
-ghost use Rattle.lineage_log.specs.LogValues.{lines_of};
-ghost use Rattle.lineage_log.specs.Upgrade.{newer, upgraded};
+ghost use Rattle.lineage_log.specs.Prelude.{line_values};
+ghost use Rattle.lineage_log.specs.LogGrammar.{IsGoodLog, newer, upgraded};
+ghost use Rattle.lineage_log.specs.Readings.{lines_of};
 
 use log_lines::{LAST_VERSION, LogLine};
 use std::marker::Model;
@@ -18,7 +17,7 @@ impl Model for Log {
     ghost use Rattle.std.specs.Prelude.{List};
     ghost use Rattle.log_lines.specs.Line.{Line};
     ghost use Rattle.lineage_log.specs.LogGrammar.{IsGoodLog};
-    ghost use Rattle.lineage_log.specs.LogValues.{lines_of};
+    ghost use Rattle.lineage_log.specs.Readings.{lines_of};
 
     ghost Value = { List Line };
 

@@ -1,13 +1,10 @@
 // Reads the lines of a log one after another.
 ghost use Rattle.std.specs.Prelude.{◌≡◌, ◌<◌};
+ghost use Rattle.lineage_log.specs.Prelude.{birth_values, line_of};
 ghost use Rattle.lineage_log.specs.LogGrammar.{last_piece};
-ghost use Rattle.lineage_log.specs.Places.{place_of};
-ghost use Rattle.lineage_log.specs.Readings.{Tells};
-ghost use Rattle.lineage_log.specs.LogValues.{stop_of};
-ghost use Rattle.lineage_log.specs.LogReading.{EndsAt, GivesNext, IsAtStart, TellsNext, TellsPiece};
+ghost use Rattle.lineage_log.specs.LogReading.{place_of, EndsAt, GivesNext, IsAtStart, TellsNext, TellsPiece};
+ghost use Rattle.lineage_log.specs.Readings.{Tells, stop_of};
 ghost use Rattle.lineage_log.specs.Order.{told};
-ghost use Rattle.log_lines.specs.Line.{birth_values};
-ghost use Rattle.log_lines.specs.LineReading.{line_of};
 
 use crate::log_stop::LogStop;
 use crate::place::{LogPlace, tell};

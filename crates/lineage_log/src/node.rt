@@ -1,7 +1,6 @@
 // A node of a tree.
 ghost use Rattle.std.specs.Prelude.{◌≡◌, ◌+◌, ◌-◌, ◌<◌, ◌^◌, false, IfOk, option_map, true};
-ghost use Rattle.genome.specs.Genome.{letters};
-ghost use Rattle.mutations.specs.BirthRecord.{record_of};
+ghost use Rattle.lineage_log.specs.Prelude.{letters, record_of};
 ghost use Rattle.lineage_log.specs.Nodes.{is_needed, node_link};
 
 use crate::ancestor::{Ancestor, Provenance};

@@ -1,8 +1,8 @@
 // The nodes of a tree, by their ids.
 ghost use Rattle.std.specs.Prelude.{◌≡◌, ◌+◌, ◌-◌, ◌<◌, ◌^◌, Contains, OnErr, OnOk, Some, false, nat_eq};
-ghost use Rattle.std.specs.Map.{lookup, set_value};
+ghost use Rattle.lineage_log.specs.Prelude.{lookup, set_value};
 ghost use Rattle.lineage_log.specs.Nodes.{NodeValue, AreNodes, IsSettled, id_order, living_ids_of, tree_of};
-ghost use Rattle.lineage_log.specs.Trees.{CanCome, tree_with_death, tree_with_newcomer};
+ghost use Rattle.lineage_log.specs.Ancestry.{CanCome, tree_with_death, tree_with_newcomer};
 
 use crate::ancestor::Ancestor;
 use crate::node::Node;

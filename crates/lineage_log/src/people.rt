@@ -1,6 +1,6 @@
 // The genomes of those who live, and of those who died in this update.
 ghost use Rattle.std.specs.Prelude.{◌≡◌, ◌<◌, ◌^◌, ◌++◌, ◌∷◌, [], None, Some, IfOk, OnErr, OnOk, length, slice_get, slice_set, option_and_then, option_map, fold};
-ghost use Rattle.genome.specs.Genome.{letters};
+ghost use Rattle.lineage_log.specs.Prelude.{letters};
 
 use avida_port::Memory;
 use genome::Genome;

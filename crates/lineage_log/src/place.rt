@@ -1,9 +1,9 @@
 // Where a log stands between two lines.
 ghost use Rattle.std.specs.Prelude.{◌≡◌, Ok};
-ghost use Rattle.log_lines.specs.Line.{End, line_values};
+ghost use Rattle.lineage_log.specs.Prelude.{End, line_values};
 ghost use Rattle.lineage_log.specs.Order.{After, Before, IsWhole, Within, told};
 ghost use Rattle.lineage_log.specs.Readings.{Tells, reader_of};
-ghost use Rattle.lineage_log.specs.Places.{place_of};
+ghost use Rattle.lineage_log.specs.LogReading.{place_of};
 
 use crate::reader::Reader;
 use crate::refusal::{OUT_OF_ORDER, Refusal};

@@ -1,7 +1,7 @@
 // Reads a log.
 ghost use Rattle.std.specs.Prelude.{◌≡◌, ◌≢◌, Err};
 ghost use Rattle.lineage_log.specs.LogGrammar.{log_of};
-ghost use Rattle.lineage_log.specs.LogValues.{Gives};
+ghost use Rattle.lineage_log.specs.Readings.{Gives};
 
 use crate::laws::read_exactly;
 use crate::log::Log;

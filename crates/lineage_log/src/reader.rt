@@ -1,10 +1,7 @@
 // What is known of a log between two of its lines.
 ghost use Rattle.std.specs.Prelude.{◌≡◌, ◌≢◌, ℕ, ◌+◌, ◌<◌, ◌≤◌, ◌&&◌, ◌==◌, OnOk, IsTrue, ◌*◌, ◌^◌, ◌-◌, option_map, Ok, Err, if◌then◌else◌, length, slice_get, Some};
-ghost use Rattle.genome.specs.Genome.{letters};
-ghost use Rattle.mutations.specs.BirthRecord.{record_of};
-ghost use Rattle.log_lines.specs.Line.{End, line_values};
-ghost use Rattle.lineage_log.specs.Slots.{holds, taken};
-ghost use Rattle.lineage_log.specs.Reader.{is_quiet, may_be_born, may_die, parent_in, reader_with_death, reader_with_newcomer};
+ghost use Rattle.lineage_log.specs.Prelude.{letters, record_of, End, line_values};
+ghost use Rattle.lineage_log.specs.Reader.{holds, taken, is_quiet, may_be_born, may_die, parent_in, reader_with_death, reader_with_newcomer};
 ghost use Rattle.lineage_log.specs.Order.{told_birth, told_cleared, told_count, told_death, told_end, told_injected, told_rate, told_start, may_happen, at_next_update, told, Within, After};
 
 use crate::child::{child_in, is_unchanged};
@@ -64,8 +61,7 @@ fn is_quiet(stage: Stage) -> bool
 }
 
 impl Reader {
-    ghost use Rattle.lineage_log.specs.Readings.{Tells, reader_of};
-    ghost use Rattle.lineage_log.specs.Children.{MakesChild};
+    ghost use Rattle.lineage_log.specs.Readings.{Tells, reader_of, MakesChild};
 
     /// The reader after the first line.
     #[tactic(auto, unfolding(crate::specs::Order::told_start))]

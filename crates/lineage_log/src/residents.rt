@@ -1,12 +1,10 @@
 // Who lives at the end of a log.
 ghost use Rattle.std.specs.Prelude.{◌≡◌, ◌≢◌, ◌≤◌, ◌∷◌, [], Some, Ok, Err, IfOk, IsSome, length, option_and_then, slice_get};
 ghost use Rattle.lineage_log.specs.LogGrammar.{IsGoodLog, log_of};
-ghost use Rattle.lineage_log.specs.LogValues.{lines_of};
+ghost use Rattle.lineage_log.specs.Readings.{lines_of, reader_of};
 ghost use Rattle.lineage_log.specs.Order.{After, Before, told_all};
-ghost use Rattle.lineage_log.specs.Readings.{reader_of};
-ghost use Rattle.lineage_log.specs.Livings.{LeavesReader, living_residents_of};
-ghost use Rattle.lineage_log.specs.Replay.{replay_of, resident_at, residents_from};
-ghost use Rattle.lineage_log.specs.Residents.{EachIsKept, kept_genomes};
+ghost use Rattle.lineage_log.specs.Replay.{LeavesReader, living_residents_of, replay_of, resident_at, residents_from};
+ghost use Rattle.lineage_log.specs.Reader.{EachIsKept, kept_genomes};
 
 use crate::laws::read_exactly;
 use crate::living::{Living, Livings};

@@ -1,6 +1,6 @@
 // Who stands in each cell.
 ghost use Rattle.std.specs.Prelude.{◌≡◌, ◌<◌, None, Some, IfOk, length, replicate, slice_get, slice_set, true};
-ghost use Rattle.lineage_log.specs.Slots.{holds, taken};
+ghost use Rattle.lineage_log.specs.Reader.{holds, taken};
 
 use avida_port::Memory;
 use std::alloc::Global;
@@ -15,7 +15,7 @@ pub struct Slots {
 
 impl Model for Slots {
     ghost use Rattle.std.specs.Prelude.{ℕ, ◌≡◌, List, Option};
-    ghost use Rattle.lineage_log.specs.Slots.{taken};
+    ghost use Rattle.lineage_log.specs.Reader.{taken};
 
     ghost Value = { List (Option ℕ) };
 

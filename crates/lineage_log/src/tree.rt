@@ -1,10 +1,7 @@
 // A tree of the living and their ancestors.
 ghost use Rattle.std.specs.Prelude.{◌≡◌, ℕ, Contains, IfOk, IsOk, IsSome, None, Ok, OnErr, OnOk, Some, List, length};
-ghost use Rattle.instruction_set.specs.declared.letter.Letter.{Letter};
-ghost use Rattle.genome.specs.Genome.{letters};
-ghost use Rattle.mutations.specs.BirthRecord.{child_of, record_of};
-ghost use Rattle.lineage_log.specs.Ancestry.{line_of_descent, link_of};
-ghost use Rattle.lineage_log.specs.Trees.{CanCome, IsPruned, founded_by, genome_in_tree, tree_with_death, tree_with_newcomer};
+ghost use Rattle.lineage_log.specs.Prelude.{Letter, letters, child_of, record_of};
+ghost use Rattle.lineage_log.specs.Ancestry.{line_of_descent, link_of, CanCome, IsPruned, founded_by, genome_in_tree, tree_with_death, tree_with_newcomer};
 
 use crate::ancestor::{Ancestor, Provenance};
 use crate::link::{Link, Path};
@@ -25,7 +22,7 @@ pub struct Tree {
 
 impl Model for Tree {
     ghost use Rattle.lineage_log.specs.Nodes.{AreNodes, id_order, tree_of};
-    ghost use Rattle.lineage_log.specs.Trees.{TreeValue};
+    ghost use Rattle.lineage_log.specs.Ancestry.{TreeValue};
 
     ghost Value = { TreeValue };
 

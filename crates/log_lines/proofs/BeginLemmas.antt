@@ -1,19 +1,10 @@
 -- Reading a row in two steps: its first fields, and then the row behind them.
 use Rattle.std.proofs.Common.{arith, ◌≡◌, ℕ, Bool, true, false, List, [], ◌∷◌, Option, Some, None, refl}
-use Rattle.std.specs.Bool.{then_some}
 use Rattle.std.specs.Prelude.{option_and_then, option_map}
-use Rattle.std.proofs.lemmas.Grind.{common_steps}
-use Rattle.instruction_set.specs.declared.letter.Letter.{Letter}
-use Rattle.mutations.specs.declared.change.Change.{Change}
+use Rattle.log_lines.proofs.Prelude.{then_some, common_steps, Letter, Change, number, genome_of_word, birth_form, start_form, small, large, over_field, record_row, side, read_both, read_last, read_as, read_arrival, read_first, read_newborn, read_opening, read_then}
 use Rattle.log_lines.specs.declared.reading.Arrival.{Arrival}
 use Rattle.log_lines.specs.declared.reading.Newborn.{Newborn}
 use Rattle.log_lines.specs.declared.reading.Opening.{Opening}
-use Rattle.log_lines.specs.Fields.{number, genome_of_word}
-use Rattle.log_lines.specs.Forms.{birth_form, start_form}
-use Rattle.log_lines.specs.Kinds.{small, large, over_field, record_row, side}
-use Rattle.log_lines.specs.LineReading.{read_as}
-use Rattle.log_lines.specs.Rows.{read_both, read_last}
-use Rattle.log_lines.specs.Words.{read_arrival, read_first, read_newborn, read_opening, read_then}
 
 -- the words that are left of a line
 abbrev pub Left : Type 0

@@ -1,18 +1,8 @@
 -- What is written is read again, and what is read was written so.
 use Rattle.std.proofs.Common.{◌≡◌, ◌≢◌, ℕ, ◌<◌, ◌≤◌, ◌^◌, Bool, true, false, cond, List, [], ◌∷◌, ◌++◌, map, length, Option, Some, None, refl, sym, ap, ◌∙◌, arith, inl, inr, ◌⊎◌, eq-eqb, decimal}
 use Rattle.std.specs.Prelude.{option_and_then, option_map, ◌==◌}
-use Rattle.std.specs.Str.{bytes_eq}
-use Rattle.std.specs.List.{slice_split, AllByRecursion}
-use Rattle.std.proofs.lemmas.Bool.Decides.{nat_tests}
-use Rattle.std.proofs.lemmas.Grind.{common_steps}
-use Rattle.std.proofs.lemmas.Option.{cond_some}
+use Rattle.log_lines.proofs.Prelude.{bytes_eq, slice_split, AllByRecursion, nat_tests, common_steps, cond_some, Letter, byte_of, letter_of_byte, is_genome_length, OneNumber, Field, given, number, genome_of_word, genome_field, or_sign, each, where_true, Row, read_last, last, read_both, ◌◂◌}
 use Rattle.std.proofs.lemmas.Slice.Eq.{bytes_eq-Decides}
-use Rattle.instruction_set.specs.declared.letter.Letter.{Letter}
-use Rattle.instruction_set.specs.Letter.{byte_of, letter_of_byte}
-use Rattle.mutations.specs.Change.{is_genome_length}
-use Rattle.numerals.specs.Spelling.{OneNumber}
-use Rattle.log_lines.specs.Fields.{Field, given, number, genome_of_word, genome_field, or_sign, each, where_true}
-use Rattle.log_lines.specs.Rows.{Row, read_last, last, read_both, ◌◂◌}
 use Rattle.log_lines.proofs.LetterLemmas.{byte_of_letter, letter_of_byte-byte_of, letter_above}
 
 -- each byte is above c

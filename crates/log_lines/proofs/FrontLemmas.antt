@@ -1,19 +1,7 @@
 -- The digits in front of a rest, and the word that they are or begin.
 use Rattle.std.proofs.Common.{◌≡◌, ℕ, ◌<◌, ◌≤◌, ◌-◌, length, get_or, suc, ◌+◌, Bool, true, false, cond, List, [], ◌∷◌, ◌++◌, take, drop, length-drop, refl, sym, ap, subst, ◌∙◌, arith, inl, inr, Option, Some, None}
 use Rattle.std.specs.Prelude.{◌&&◌, ◌==◌, not, is_some, option_map}
-use Rattle.std.specs.Char.{is_ascii_digit}
-use Rattle.std.specs.List.{slice_split, onto_first}
-use Rattle.std.specs.Str.{all_ascii_digits, bytes_eq}
-use Rattle.std.proofs.lemmas.Grind.{common_steps}
-use Rattle.std.proofs.lemmas.Bool.{cases_Bool}
-use Rattle.std.proofs.lemmas.Bool.Decides.{nat_tests}
-use Rattle.std.proofs.lemmas.List.{take_all}
-use Rattle.log_lines.specs.Line.{Line}
-use Rattle.log_lines.specs.Forms.{LineForm, forms}
-use Rattle.numerals.specs.Numeral.{digits_len, is_numeral, leading_digits, number_of}
-use Rattle.log_lines.specs.Kinds.{over_field}
-use Rattle.log_lines.specs.LineReading.{line_of, read_by, read_words}
-use Rattle.log_lines.specs.Words.{after_word, read_first, words_of}
+use Rattle.log_lines.proofs.Prelude.{is_ascii_digit, slice_split, onto_first, all_ascii_digits, bytes_eq, common_steps, cases_Bool, nat_tests, take_all, Line, LineForm, forms, digits_len, is_numeral, leading_digits, number_of, over_field, line_of, read_by, read_words, after_word, read_first, words_of}
 
 -- the words of a text
 abbrev cut : List ℕ → List (List ℕ)

@@ -1,10 +1,7 @@
 -- What letters read one by one say of a genome.
 use Rattle.std.proofs.Common.{◌≡◌, ℕ, Bool, true, false, cond, List, length, Option, Some, None, refl, sym, ap, ◌∙◌}
 use Rattle.std.specs.Prelude.{option_and_then}
-use Rattle.instruction_set.specs.declared.letter.Letter.{Letter}
-use Rattle.instruction_set.specs.Letter.{letter_of_byte}
-use Rattle.mutations.specs.Change.{is_genome_length}
-use Rattle.log_lines.specs.Fields.{given, each, genome_of_word}
+use Rattle.log_lines.proofs.Prelude.{Letter, letter_of_byte, is_genome_length, given, each, genome_of_word}
 use Rattle.log_lines.proofs.FieldLaws.{letters_law}
 use Rattle.log_lines.proofs.ListLaws.{each_length}
 

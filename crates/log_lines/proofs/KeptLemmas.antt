@@ -1,9 +1,7 @@
 -- What begins with a longer list begins with its front.
 use Rattle.std.proofs.Common.{◌≡◌, List, ◌++◌, length, take, drop, sym, ap, ◌∙◌, append_assoc, subst, Result, Ok, Err}
 use Rattle.std.specs.Prelude.{OnErr}
-use Rattle.std.proofs.lemmas.List.{take-append-drop}
-use Rattle.std.proofs.Math.Seq.{take-append_seam}
-use Rattle.log_lines.specs.Kept.{Keeps}
+use Rattle.log_lines.proofs.Prelude.{take-append-drop, take-append_seam, Keeps}
 
 -- a list that begins with two lists begins with the first one
 pub keeps_front : {A : Type 0} (a b c : List A) → Keeps (a ++ b) c → Keeps a c

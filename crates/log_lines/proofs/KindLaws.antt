@@ -1,23 +1,10 @@
 -- What is written of a field of a log is read again, and what is read was written so.
 use Rattle.std.proofs.Common.{◌≡◌, ℕ, suc, ◌-◌, ◌<◌, List, [], ◌∷◌, ◌++◌, length, get_or, take, Some, None, refl, ap, subst, arith, inl, inr, decimal, length-append}
 use Rattle.std.specs.Prelude.{option_map, ◌==◌}
-use Rattle.std.specs.Str.{bytes_eq}
-use Rattle.std.proofs.lemmas.Bool.{eqb-true}
-use Rattle.std.proofs.Math.Seq.{take-append_seam, get_or-append_seam}
-use Rattle.instruction_set.specs.declared.letter.Letter.{Letter}
-use Rattle.instruction_set.specs.Letter.{byte_of, letter_of_byte}
-use Rattle.mutations.specs.declared.change.Change.{Change}
-use Rattle.mutations.specs.declared.change.Change.TheVariants.{Point, Insert, Delete}
+use Rattle.log_lines.proofs.Prelude.{bytes_eq, eqb-true, take-append_seam, get_or-append_seam, Letter, byte_of, letter_of_byte, Change, Point, Insert, Delete, FitsChange, in_order, number_of, OneNumber, Field, genome_of_word, change_text, small, large, rate_name, read_lettered, read_change, change_field, over_field, base_field, changes_field, ToChange}
 use Rattle.mutations.specs.declared.rate_name.RateName.{RateName}
 use Rattle.mutations.specs.declared.rate_name.RateName.TheVariants as rate
-use Rattle.mutations.specs.RecordForm.{FitsChange, in_order}
-use Rattle.mutations.specs.RateNames.{name_of_rate, rate_named, rate_names}
-use Rattle.numerals.specs.Numeral.{number_of}
-use Rattle.numerals.specs.Spelling.{OneNumber}
-use Rattle.log_lines.specs.Fields.{Field, genome_of_word}
-use Rattle.log_lines.specs.LineWords.{change_text}
-use Rattle.log_lines.specs.Kinds.{small, large, rate_name, read_lettered, read_change, change_field, over_field, base_field, changes_field}
-use Rattle.log_lines.specs.Words.{ToChange}
+use Rattle.mutations.specs.Rates.{name_of_rate, rate_named, rate_names}
 use Rattle.log_lines.proofs.LetterLemmas.{byte_of_letter, letter_of_byte-byte_of, letter_above, found_passes}
 use Rattle.log_lines.proofs.FieldLaws.{Above, IsField, above_append, same_bytes, chosen, number_law, letters_law, or_sign_law, where_law, field_lower, some_map, some_then}
 use Rattle.log_lines.proofs.ListLaws.{list_law}

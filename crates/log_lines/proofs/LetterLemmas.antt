@@ -1,10 +1,8 @@
 -- Letters and their bytes.
 use Rattle.std.proofs.Common.{◌≡◌, ℕ, ◌<◌, Bool, true, List, [], ◌∷◌, Some, refl, arith, inl, inr}
 use Rattle.std.specs.Prelude.{find, ◌==◌}
-use Rattle.std.proofs.lemmas.Bool.{cases_Bool, eqb-true}
-use Rattle.instruction_set.specs.declared.letter.Letter.{Letter}
+use Rattle.log_lines.proofs.Prelude.{cases_Bool, eqb-true, Letter, letter_table, byte_of, letter_of_byte}
 use Rattle.instruction_set.specs.declared.letter.Letter.TheVariants.{NopA}
-use Rattle.instruction_set.specs.Letter.{letter_table, byte_of, letter_of_byte}
 
 -- what is found passes the test
 pub found_passes : {A : Type 0} (p : A → Bool) (xs : List A) (x : A) → find p xs ≡ Some x

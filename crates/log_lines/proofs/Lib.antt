@@ -1,3 +1,4 @@
+pub mod Prelude
 pub mod TextLemmas
 pub mod KeptLemmas
 pub mod LetterLemmas

@@ -2,18 +2,8 @@
 -- table has the laws of `IsForm`, and the rest is said once for all forms.
 use Rattle.std.proofs.Common.{◌≡◌, ℕ, ◌<◌, true, List, [], ◌∷◌, ◌++◌, Some, refl, sym, ap, ◌∙◌, arith, inl, inr}
 use Rattle.std.specs.Prelude.{option_map}
-use Rattle.std.specs.Str.{bytes_eq}
-use Rattle.std.specs.List.{join_with_byte}
-use Rattle.std.proofs.lemmas.List.Splits.{join_with_byte-slice_split}
+use Rattle.log_lines.proofs.Prelude.{bytes_eq, join_with_byte, join_with_byte-slice_split, OneNumber, Field, Row, ◌◂◌, small, large, side, death_row, arrival_then, record_row, Line, Start, Death, Birth, Injected, Cleared, Rate, Count, End, LineForm, forms, start_form, death_form, birth_form, injected_form, cleared_form, rate_form, count_form, end_form, HasForm, row_text, words_text, form_text, read_as, read_by, read_words, line_of}
 use Rattle.random_streams.specs.RandomStream.{greatest_side, million}
-use Rattle.numerals.specs.Spelling.{OneNumber}
-use Rattle.log_lines.specs.Fields.{Field}
-use Rattle.log_lines.specs.Rows.{Row, ◌◂◌}
-use Rattle.log_lines.specs.Line.{Line, Start, Death, Birth, Injected, Cleared, Rate, Count, End}
-use Rattle.log_lines.specs.Kinds.{small, large, side, death_row, arrival_then, record_row}
-use Rattle.log_lines.specs.Forms.{LineForm, forms, start_form, death_form, birth_form, injected_form, cleared_form, rate_form, count_form, end_form}
-use Rattle.log_lines.specs.LineText.{HasForm, row_text, words_text, form_text}
-use Rattle.log_lines.specs.LineReading.{read_as, read_by, read_words, line_of}
 use Rattle.log_lines.proofs.FieldLaws.{Above, IsField, IsRow, chosen, some_map, number_law, letters_law, last_law, row_law}
 use Rattle.log_lines.proofs.ListLaws.{times_law}
 use Rattle.log_lines.proofs.RowLaws.{words_in, joined_words, row_words, row_plain, row_takes}

@@ -1,13 +1,7 @@
 -- Lists of values: what is written of one is read again, and what is read was written so.
 use Rattle.std.proofs.Common.{◌≡◌, ℕ, ◌<◌, true, List, [], ◌∷◌, map, length, Option, Some, None, refl, sym, ap, subst, ◌∙◌, arith, inl, inr, eq-eqb}
-use Rattle.std.proofs.lemmas.List.{length-map}
 use Rattle.std.specs.Prelude.{option_map, ◌==◌}
-use Rattle.std.specs.Str.{bytes_eq}
-use Rattle.std.specs.List.{slice_split, join_with_byte, AllByRecursion}
-use Rattle.std.proofs.lemmas.Bool.{eqb-true}
-use Rattle.std.proofs.lemmas.List.Splits.{join_with_byte-slice_split}
-use Rattle.log_lines.specs.Fields.{Field, each, list_of}
-use Rattle.log_lines.specs.Rows.{times}
+use Rattle.log_lines.proofs.Prelude.{length-map, bytes_eq, slice_split, join_with_byte, AllByRecursion, eqb-true, join_with_byte-slice_split, Field, each, list_of, times}
 use Rattle.log_lines.proofs.FieldLaws.{Above, IsField, IsRow, above_lower, above_append, not_equal, same_bytes, split_first, split_one, some_map, some_then, some_text, chosen, each_again, each_takes}
 
 -- as many items are read as there were

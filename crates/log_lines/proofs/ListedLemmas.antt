@@ -1,18 +1,7 @@
 -- The first change of a list, from the digits and the letter that it is written with.
 use Rattle.std.proofs.Common.{◌≡◌, ◌<◌, ◌≤◌, ◌-◌, ◌∙◌, ℕ, List, [], ◌∷◌, ◌++◌, Option, Some, None, length, get_or, take, drop, refl, sym, ap, arith, inl, inr, length-append, append-nil, append_assoc}
 use Rattle.std.specs.Prelude.{option_map, ◌==◌}
-use Rattle.std.specs.Char.{is_ascii_digit}
-use Rattle.std.specs.List.{slice_split}
-use Rattle.std.proofs.lemmas.Bool.{cases_Bool}
-use Rattle.std.proofs.lemmas.Bool.Decides.{nat_tests}
-use Rattle.std.proofs.Math.Seq.{take-append_seam, get_or-append_seam}
-use Rattle.instruction_set.specs.declared.letter.Letter.{Letter}
-use Rattle.instruction_set.specs.Letter.{byte_of, letter_of_byte}
-use Rattle.mutations.specs.declared.change.Change.{Change}
-use Rattle.mutations.specs.declared.change.Change.TheVariants.{Delete}
-use Rattle.numerals.specs.Numeral.{digits_len, leading_digits, number_of}
-use Rattle.log_lines.specs.Kinds.{small, read_lettered, read_change}
-use Rattle.log_lines.specs.Words.{ToChange, comma_then, pieces_of, read_first}
+use Rattle.log_lines.proofs.Prelude.{is_ascii_digit, slice_split, cases_Bool, nat_tests, take-append_seam, get_or-append_seam, Letter, byte_of, letter_of_byte, Change, Delete, digits_len, leading_digits, number_of, small, read_lettered, read_change, ToChange, comma_then, pieces_of, read_first}
 use Rattle.log_lines.proofs.FieldLaws.{Above, above_append, split_first, split_one}
 use Rattle.log_lines.proofs.FrontLemmas.{digits_on, digits_split, no_digits, tail_is}
 use Rattle.log_lines.proofs.LetterLemmas.{byte_of_letter, letter_above, letter_of_byte-byte_of}

@@ -1,11 +1,7 @@
 -- The form that a mark of one byte chooses.
 use Rattle.std.proofs.Common.{◌≡◌, ℕ, Bool, true, false, cond, List, [], ◌∷◌, subst, arith, Option, Some, None, option_map}
 use Rattle.std.specs.Prelude.{◌&&◌, ◌==◌}
-use Rattle.std.proofs.lemmas.Bool.Decides.{nat_tests}
-use Rattle.std.proofs.lemmas.Grind.{common_steps}
-use Rattle.log_lines.specs.Line.{IsNoBirth, Line}
-use Rattle.log_lines.specs.Forms.{LineForm, birth_form, cleared_form, count_form, death_form, end_form, forms, injected_form, plain_forms, rate_form, start_form}
-use Rattle.log_lines.specs.LineReading.{read_as, read_by}
+use Rattle.log_lines.proofs.Prelude.{nat_tests, common_steps, IsNoBirth, Line, LineForm, birth_form, cleared_form, count_form, death_form, end_form, forms, injected_form, plain_forms, rate_form, start_form, read_as, read_by}
 
 -- an equal mark chooses the same form
 pub by_mark : (table : List LineForm) (words : List (List ℕ)) (mark n : ℕ) → mark ≡ n

@@ -1,12 +1,7 @@
 -- The text of a row behind its mark: its words are told apart again, and no newline is in it.
 use Rattle.std.proofs.Common.{◌≡◌, ℕ, ◌<◌, true, List, [], ◌∷◌, ◌++◌, Option, Some, None, refl, sym, ap, ◌∙◌, arith, append-nil}
 use Rattle.std.specs.Prelude.{◌==◌}
-use Rattle.std.specs.Str.{bytes_eq}
-use Rattle.std.specs.List.{slice_split, join_with_byte, AllByRecursion}
-use Rattle.std.proofs.lemmas.List.Splits.{join_with_byte-slice_split}
-use Rattle.log_lines.specs.Fields.{Field}
-use Rattle.log_lines.specs.Rows.{Row, read_last}
-use Rattle.log_lines.specs.LineText.{words_text, form_text}
+use Rattle.log_lines.proofs.Prelude.{bytes_eq, slice_split, join_with_byte, AllByRecursion, join_with_byte-slice_split, Field, Row, read_last, words_text, form_text}
 use Rattle.log_lines.proofs.FieldLaws.{Above, IsField, IsRow, above_lower, above_append, same_bytes, split_first, split_one}
 
 -- the words of a text

@@ -1,13 +1,7 @@
 -- Texts that grow by a word or an item.
 use Rattle.std.proofs.Common.{◌≡◌, ℕ, ◌+◌, ◌<◌, cond, List, [], ◌∷◌, ◌++◌, map, length, get_or, take, refl, sym, ap, ◌∙◌, arith, append_assoc, append-nil, Some}
 use Rattle.std.specs.Prelude.{◌==◌, slice_get}
-use Rattle.std.specs.List.{join_with_byte}
-use Rattle.std.proofs.lemmas.List.{take_more, map-append, length-take-le}
-use Rattle.std.proofs.lemmas.Option.{slice_get_within, get_or_from_slice_get}
-use Rattle.std.proofs.lemmas.Bool.Decides.{nat_tests}
-use Rattle.mutations.specs.declared.change.Change.{Change}
-use Rattle.log_lines.specs.LineWords.{change_text}
-use Rattle.log_lines.specs.LineText.{words_text}
+use Rattle.log_lines.proofs.Prelude.{join_with_byte, take_more, map-append, length-take-le, slice_get_within, get_or_from_slice_get, nat_tests, Change, change_text, words_text}
 
 -- words behind words
 pub words_text-append : (a b : List (List ℕ)) → words_text (a ++ b) ≡ words_text a ++ words_text b

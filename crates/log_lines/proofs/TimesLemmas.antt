@@ -1,13 +1,7 @@
 -- Reading as many numbers as end a line, one by one.
 use Rattle.std.proofs.Common.{◌≡◌, ℕ, ◌+◌, ◌<◌, cond, List, [], ◌∷◌, ◌++◌, length, take, set, Option, Some, None, refl, sym, ap, arith, append_assoc, append-nil, length-append, length-set, eq-eqb}
 use Rattle.std.specs.Prelude.{option_map, ◌==◌}
-use Rattle.std.proofs.lemmas.Bool.Decides.{nat_tests}
-use Rattle.std.proofs.lemmas.Grind.{common_steps}
-use Rattle.std.proofs.lemmas.List.{take_more, take-set-le, get_or-set_same}
-use Rattle.std.proofs.lemmas.Option.{some_pair_parts}
-use Rattle.log_lines.specs.Fields.{each}
-use Rattle.log_lines.specs.Rows.{read_both, read_last}
-use Rattle.log_lines.specs.Words.{read_first}
+use Rattle.log_lines.proofs.Prelude.{nat_tests, common_steps, take_more, take-set-le, get_or-set_same, some_pair_parts, each, read_both, read_last, read_first}
 
 -- some words were read, as these numbers, and the others are left
 pub record HasRead (read : List ℕ → Option ℕ) (words left : List (List ℕ)) (front : List ℕ) : Type 0

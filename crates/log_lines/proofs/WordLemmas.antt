@@ -1,11 +1,7 @@
 -- The first piece of a rest.
 use Rattle.std.proofs.Common.{◌≡◌, ℕ, suc, ◌+◌, ◌<◌, ◌≤◌, true, false, List, [], ◌∷◌, ◌++◌, length, get_or, take, drop, refl, sym, ap, ◌∙◌, arith, add-one, drop-cons, get_or-take, length-take, Option, None, inl, inr, eq-eqb}
 use Rattle.std.specs.Prelude.{◌==◌, All}
-use Rattle.std.specs.List.{slice_split, onto_first}
-use Rattle.std.proofs.lemmas.Bool.{cases_Bool}
-use Rattle.log_lines.specs.Rows.{read_last}
-use Rattle.std.proofs.lemmas.List.{take-append-drop, get_or_default}
-use Rattle.std.proofs.lemmas.List.Splits.{slice_split_at, slice_split_none}
+use Rattle.log_lines.proofs.Prelude.{slice_split, onto_first, cases_Bool, read_last, take-append-drop, get_or_default, slice_split_at, slice_split_none}
 
 -- the part byte stands at none of the first places
 abbrev pub IsFree : ℕ → List ℕ → ℕ → Type 0

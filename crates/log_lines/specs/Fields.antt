@@ -1,16 +1,9 @@
 -- A field of a line: a value's text, and the reading of that text (docs/FORMATS.md, "The log"). A
 -- text is a list of bytes. For example, the field of an organism's id writes 12 as `12`, reads `12`
 -- as 12, and reads nothing from `012`, from `x` or from an empty text.
-use Prim.Native.Char.{code}
 use Rattle.std.specs.Prelude.{◌≡◌, ℕ, ◌≤◌, List, [], ◌∷◌, map, length, Option, Some, None, Bool, true, ◌==◌, if◌then◌else◌, option_and_then, option_map, IfSome, decimal}
-use Rattle.std.specs.Str.{bytes_eq}
-use Rattle.std.specs.List.{slice_split, AllByRecursion}
-use Rattle.std.specs.Option.{option_map_or}
-use Rattle.instruction_set.specs.declared.letter.Letter.{Letter}
-use Rattle.instruction_set.specs.Letter.{byte_of, letter_of_byte}
-use Rattle.mutations.specs.Change.{is_genome_length}
-use Rattle.numerals.specs.Numeral.{number_of}
-use Rattle.log_lines.specs.LineWords.{comma_word}
+use Rattle.log_lines.specs.Prelude.{code, bytes_eq, slice_split, AllByRecursion, option_map_or, Letter, byte_of, letter_of_byte, is_genome_length, number_of}
+use Rattle.log_lines.specs.Line.{comma_word}
 
 -- the text of a value, the value that is read from a text, and which values the field allows
 pub record Field (A : Type 0) : Type 1 where

@@ -1,13 +1,11 @@
 -- The eight forms of a log's lines, and their table (docs/FORMATS.md, "The log"). For example, the
 -- line `R 12 copy_error 500` has the mark `R` and the three fields (12, (Copy, 500)), and it sets
 -- the rate of copy errors to 500 in a million.
-use Prim.Native.Char.{code}
 use Rattle.std.specs.Prelude.{ℕ, List, [], ◌∷◌}
-use Rattle.random_streams.specs.RandomStream.{million}
+use Rattle.log_lines.specs.Prelude.{code, million}
 use Rattle.log_lines.specs.Line.{Line, Start, Death, Birth, Injected, Cleared, Rate, Count, End}
 use Rattle.log_lines.specs.Fields.{number, genome_field}
-use Rattle.log_lines.specs.Rows.{Row, last, times, ◌◂◌}
-use Rattle.log_lines.specs.Kinds.{small, large, side, rate_name, death_row, arrival_then, record_row}
+use Rattle.log_lines.specs.Kinds.{Row, last, times, ◌◂◌, small, large, side, rate_name, death_row, arrival_then, record_row}
 
 -- a form of lines: its fields, the byte in front, the row of the fields, and the line they tell
 pub record LineForm : Type 1 where

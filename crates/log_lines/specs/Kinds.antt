@@ -1,19 +1,55 @@
--- The fields of a log's lines, and the rows that several lines have (docs/FORMATS.md, "The log").
--- For example, a birth's line ends with the words of its record, `= p4k,d9`: the base is the
--- parent's genome, the letter `k` is put at its place 4, and then the letter at place 9 is deleted.
-use Prim.Native.Char.{code}
-use Rattle.std.specs.Prelude.{ℕ, ◌-◌, List, [], ◌∷◌, length, take, Option, None, ◌==◌, if◌then◌else◌, option_and_then, option_map, slice_index}
-use Rattle.instruction_set.specs.declared.letter.Letter.{Letter}
-use Rattle.instruction_set.specs.Letter.{letter_of_byte}
-use Rattle.random_streams.specs.RandomStream.{greatest_side}
-use Rattle.mutations.specs.declared.change.Change.{Change}
-use Rattle.mutations.specs.declared.change.Change.TheVariants.{Point, Insert, Delete}
-use Rattle.mutations.specs.declared.rate_name.RateName.{RateName}
-use Rattle.mutations.specs.RateNames.{name_of_rate, rate_named}
-use Rattle.mutations.specs.RecordForm.{FitsChange, in_order}
-use Rattle.log_lines.specs.LineWords.{change_text}
-use Rattle.log_lines.specs.Fields.{Field, number, genome_field, or_sign, list_of, where_true}
-use Rattle.log_lines.specs.Rows.{Row, last, ◌◂◌}
+-- The fields of a log's lines, and rows of several fields, a word each (docs/FORMATS.md, "The
+-- log"). For example, if f, g and h are fields of numbers, the row `f ◂ g ◂ last h` writes (7, (12,
+-- 45)) as the words `7`, `12` and `45`, and reads the same value from these three words alone. A
+-- birth's line ends with the words of its record, `= p4k,d9`: the base is the parent's genome, the
+-- letter `k` is put at its place 4, and then the letter at place 9 is deleted.
+use Rattle.std.specs.Prelude.{◌≡◌, ℕ, List, [], ◌∷◌, map, length, Option, None, ◌==◌, if◌then◌else◌, option_and_then, option_map, ◌-◌, take, slice_index}
+use Rattle.log_lines.specs.Prelude.{AllByRecursion, code, Letter, letter_of_byte, greatest_side, Change, Point, Insert, Delete, RateName, name_of_rate, rate_named, FitsChange, in_order}
+use Rattle.log_lines.specs.Fields.{Field, each, number, genome_field, or_sign, list_of, where_true}
+use Rattle.log_lines.specs.Line.{change_text}
+
+-- the words of a value, the value that is read from words, and which values the row allows
+pub record Row (A : Type 0) : Type 1 where
+  pub texts : A → List (List ℕ)
+  pub read : List (List ℕ) → Option A
+  pub Fits : A → Type 0
+
+-- what is read from the only word; none where there are more words or no word
+abbrev pub read_last : {A : Type 0} → (List ℕ → Option A) → List (List ℕ) → Option A
+read_last read [] = None
+read_last read (word ∷ []) = read word
+read_last read (word ∷ other ∷ words) = None
+
+-- a field that ends the row
+abbrev pub last : {A : Type 0} → Field A → Row A
+last f = record { texts = λ a. f.text a ∷ []; read = read_last f.read; Fits = f.Fits }
+
+-- so many fields of one kind, which end the row: their values are a list
+abbrev pub times : {A : Type 0} → ℕ → Field A → Row (List A)
+times count f =
+    record {
+      texts = map f.text;
+      read = λ words. if length words == count then each f.read words else None;
+      Fits = λ items. (length items ≡ count) × AllByRecursion f.Fits items;
+    }
+
+-- what is read from the first word, with what is read from the others
+abbrev pub read_both :
+    {A B : Type 0} → (List ℕ → Option A) → (List (List ℕ) → Option B) → List (List ℕ)
+    → Option (A × B)
+read_both first others [] = None
+read_both first others (word ∷ words) =
+    option_and_then (λ a. option_map (λ b. (a, b)) (others words)) (first word)
+
+infixr 20 ◌◂◌
+-- a field with a row behind it: the value is a pair, of that of the field and that of the row
+abbrev pub ◌◂◌ : {A B : Type 0} → Field A → Row B → Row (A × B)
+f ◂ r =
+    record {
+      texts = λ p. f.text p.0 ∷ r.texts p.1;
+      read = read_both f.read r.read;
+      Fits = λ p. f.Fits p.0 × r.Fits p.1;
+    }
 
 -- an update, a cell or a place: a number below 2 ^ 32
 abbrev pub small : Field ℕ

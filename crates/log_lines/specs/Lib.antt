@@ -1,16 +1,13 @@
+pub mod Prelude
 -- The files in the order of reading. Line says what a line tells, LineWords and LineText how it is
 -- written. Fields to LineReading say the same by a table of forms, from which a line is also read.
 -- Words and Kept are for functions that read or write a part of a line.
 pub use Rattle.genome.specs.Genome
 pub use Rattle.mutations.specs.BirthRecord
 pub mod Line
-pub mod LineWords
 pub mod LineText
 pub mod Fields
-pub mod Rows
 pub mod Kinds
 pub mod Forms
 pub mod LineReading
-pub mod LineSpelling
 pub mod Words
-pub mod Kept

@@ -1,11 +1,10 @@
 -- The line that a text has, or none (docs/FORMATS.md, "The log"). For example, `D 7 12 45` is
 -- `Death 7 12 45`, while `D 7 12`, `D 7 12 045` and `D  7 12 45` with two spaces are no lines.
-use Prim.Native.Char.{code}
-use Rattle.std.specs.Prelude.{ℕ, List, [], ◌∷◌, Option, None, ◌==◌, if◌then◌else◌, option_map}
-use Rattle.std.specs.Str.{bytes_eq}
-use Rattle.std.specs.List.{slice_split}
+use Rattle.std.specs.Prelude.{ℕ, List, [], ◌∷◌, Option, None, ◌==◌, if◌then◌else◌, option_map, ◌≡◌, ◌<◌, Some}
+use Rattle.log_lines.specs.Prelude.{code, bytes_eq, slice_split, AllByRecursion}
 use Rattle.log_lines.specs.Line.{Line}
 use Rattle.log_lines.specs.Forms.{LineForm, forms}
+use Rattle.log_lines.specs.LineText.{HasForm, row_text}
 
 -- the line that a form reads from the words behind its mark
 abbrev pub read_as : LineForm → List (List ℕ) → Option Line
@@ -25,3 +24,10 @@ read_words (mark ∷ words) = read_by forms mark words
 -- the line that has this text before its newline, or none
 unfoldable pub line_of : List ℕ → Option Line
 line_of bytes = read_words (slice_split (λ b. b == code " ") bytes)
+
+-- a line is read from its text, and from no other; each byte of it is above 10, the newline
+pub record OneSpelling : Type 0 where
+  pub again : (line : Line) → HasForm line → line_of (row_text line) ≡ Some line
+  pub takes : (bytes : List ℕ) (line : Line) → line_of bytes ≡ Some line
+      → (row_text line ≡ bytes) × HasForm line
+  pub one_line : (line : Line) → HasForm line → AllByRecursion (λ b. 10 < b) (row_text line)

@@ -1,14 +1,10 @@
 -- The text of a line and the values that it can have (docs/FORMATS.md, "The log"). For example,
 -- `Rate 12 Copy 500` has the text `R 12 copy_error 500` and a newline, and `Rate 12 Copy 2000000`
 -- has no form, since a rate is at most a million parts per million.
-use Prim.Native.Char.{code}
-use Rattle.std.specs.Prelude.{◌≡◌, ℕ, List, [], ◌∷◌, ◌++◌, length, IfSome}
-use Rattle.std.specs.List.{AllByRecursion}
-use Rattle.random_streams.specs.RandomStream.{greatest_side, million}
-use Rattle.mutations.specs.RecordForm.{HasGenomeLength, HasRecordForm, IsSmall, IsWithin}
-use Rattle.log_lines.specs.Rows.{Row}
-use Rattle.log_lines.specs.Line.{Line, Start, Death, Birth, Injected, Cleared, Rate, Count, End}
-use Rattle.log_lines.specs.LineWords.{decimals, words_of_line}
+use Rattle.std.specs.Prelude.{◌≡◌, ℕ, List, [], ◌∷◌, ◌++◌, length, IfSome, take}
+use Rattle.log_lines.specs.Prelude.{code, AllByRecursion, greatest_side, million, HasGenomeLength, HasRecordForm, IsSmall, IsWithin}
+use Rattle.log_lines.specs.Kinds.{Row}
+use Rattle.log_lines.specs.Line.{Line, Start, Death, Birth, Injected, Cleared, Rate, Count, End, decimals, words_of_line}
 
 -- a word behind a space
 abbrev pub spaced_word : List ℕ → List ℕ
@@ -61,3 +57,7 @@ HasForm (Count s) =
     IsSmall s.update × AllByRecursion IsLarge
     (s.living ∷ s.births ∷ s.deaths ∷ s.genotypes ∷ s.merit ∷ s.tasks) × (length s.tasks ≡ 9)
 HasForm (End updates) = IsSmall updates
+
+-- the new list begins with the whole old one
+pub record Keeps {A : Type 0} (old new : List A) : Type 0 where
+  pub front : take (length old) new ≡ old

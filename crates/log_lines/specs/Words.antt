@@ -1,11 +1,8 @@
 -- Reading word by word, from what is left of a line (docs/FORMATS.md, "The log"): None at its end,
 -- else the bytes behind the next space. For example, behind the `7` of `7 12 45` it is `12 45`,
 -- with the words `12` and `45`. Public functions cite the definitions up to `words_of`.
-use Prim.Native.Char.{code}
 use Rattle.std.specs.Prelude.{ℕ, List, [], ◌∷◌, Option, Some, None, ◌==◌, if◌then◌else◌, option_and_then, option_map}
-use Rattle.std.specs.List.{slice_split}
-use Rattle.instruction_set.specs.declared.letter.Letter.{Letter}
-use Rattle.mutations.specs.declared.change.Change.{Change}
+use Rattle.log_lines.specs.Prelude.{code, slice_split, Letter, Change}
 use Rattle.log_lines.specs.declared.reading.Arrival.{Arrival}
 use Rattle.log_lines.specs.declared.reading.Newborn.{Newborn}
 use Rattle.log_lines.specs.declared.reading.Opening.{Opening}

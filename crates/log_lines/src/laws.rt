@@ -1,4 +1,4 @@
-ghost use Rattle.log_lines.specs.LineSpelling.{OneSpelling};
+ghost use Rattle.log_lines.specs.LineReading.{OneSpelling};
 
 /// Each line has one spelling. It has no newline in it.
 pub fn one_spelling()

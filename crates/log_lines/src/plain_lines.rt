@@ -1,11 +1,10 @@
 // Reads the lines without genomes.
 ghost use Rattle.std.specs.Prelude.{◌≡◌, ◌∷◌, [], option_copied, option_map};
-ghost use Rattle.mutations.specs.RateNames.{rate_named};
+ghost use Rattle.log_lines.specs.Prelude.{rate_named};
 ghost use Rattle.log_lines.specs.Forms.{count_form, plain_forms, rate_form};
-ghost use Rattle.log_lines.specs.Kinds.{death_row, large};
+ghost use Rattle.log_lines.specs.Kinds.{death_row, large, times};
 ghost use Rattle.log_lines.specs.Line.{Count, line_values};
 ghost use Rattle.log_lines.specs.LineReading.{read_as, read_by};
-ghost use Rattle.log_lines.specs.Rows.{times};
 ghost use Rattle.log_lines.specs.Words.{read_first, words_of};
 
 use crate::log_line::LogLine;

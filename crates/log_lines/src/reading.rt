@@ -1,11 +1,10 @@
 // Reads the line that a text has.
 ghost use Rattle.std.specs.Prelude.{◌≡◌, ◌∷◌, [], Some, IfOk, IsFalse, IsTrue, option_copied, option_map};
+ghost use Rattle.log_lines.specs.Prelude.{written_in};
 ghost use Rattle.std.specs.Bool.{then_some};
 ghost use Rattle.genome.specs.Genome as genome_spec;
-ghost use Rattle.mutations.specs.BirthRecord.{written_in};
 ghost use Rattle.log_lines.specs.Fields as fields_spec;
-ghost use Rattle.log_lines.specs.Kinds.{base_field, changes_field, over_field, record_row};
-ghost use Rattle.log_lines.specs.Rows.{read_last};
+ghost use Rattle.log_lines.specs.Kinds.{base_field, changes_field, over_field, record_row, read_last};
 ghost use Rattle.log_lines.specs.Words.{read_arrival, read_first, read_newborn, read_opening, words_of};
 ghost use Rattle.log_lines.specs.Line.{IsNoBirth, birth_values, line_values};
 ghost use Rattle.log_lines.specs.Forms.{birth_form, forms, injected_form, start_form};

@@ -1,8 +1,7 @@
 // Reads the words of a line, from what is left of it.
 ghost use Rattle.std.specs.Prelude.{◌≡◌, ◌≤◌, ◌<◌, ◌∷◌, ◌==◌, Some, IfSome, length, option_copied, option_map};
-ghost use Rattle.std.specs.List.{slice_split};
-ghost use Rattle.numerals.specs.Numeral.{number_of};
-ghost use Rattle.log_lines.specs.Rows.{read_last};
+ghost use Rattle.log_lines.specs.Prelude.{slice_split, number_of};
+ghost use Rattle.log_lines.specs.Kinds.{read_last};
 ghost use Rattle.log_lines.specs.Words.{after_word, pieces_of, read_first, words_of};
 
 use memchr::memchr;

@@ -1,14 +1,11 @@
 // Writes the lines of a log, each into the bytes that it is given.
 ghost use Rattle.std.specs.Prelude.{◌≡◌, ◌++◌, ◌∷◌, [], Option, decimal, codes, take, Ok, OnOk, OnErr};
-ghost use Rattle.instruction_set.specs.Letter.{byte_of};
+ghost use Rattle.log_lines.specs.Prelude.{byte_of, record_of, written_in};
 ghost use Rattle.genome.specs.Genome as genome_spec;
-ghost use Rattle.mutations.specs.BirthRecord.{record_of, written_in};
 ghost use Rattle.log_lines.specs.Fields.{genome_field, list_of};
 ghost use Rattle.log_lines.specs.Kinds.{base_field, change_field, changes_field, death_row, over_field, rate_name};
-ghost use Rattle.log_lines.specs.Line.{Birth, Count, End, Injected, Rate, Start, line_values};
-ghost use Rattle.log_lines.specs.LineWords.{change_text};
-ghost use Rattle.log_lines.specs.LineText.{form_text, line_text, numbers_text, row_text, spaced_word, words_text};
-ghost use Rattle.log_lines.specs.Kept.{Keeps};
+ghost use Rattle.log_lines.specs.Line.{Birth, Count, End, Injected, Rate, Start, line_values, change_text};
+ghost use Rattle.log_lines.specs.LineText.{form_text, line_text, numbers_text, row_text, spaced_word, words_text, Keeps};
 
 use crate::log_line::LogLine;
 use crate::stats::Stats;

@@ -1,21 +1,8 @@
 -- How a run with a watcher ends, by what the runner and the watcher answered.
 use Rattle.std.proofs.Common.{◌≡◌, ℕ, List, Option, Some, IfOk, Result, Ok, Err, subst, sym, ◌∙◌}
 use Rattle.std.specs.Prelude.{IsErrAnd, OnOk}
-use Rattle.std.proofs.lemmas.Result.{err_from_is_err_and}
-use Rattle.avida_port.specs.Ports.{SinkState}
-use Rattle.world_config.specs.Values.{ConfigValues}
-use Rattle.world_core.specs.declared.picture.WorldPicture.{WorldPicture}
-use Rattle.world_core.specs.WorldValue.{WorldValue}
-use Rattle.written_texts.specs.declared.stop.WriteStop.{WriteStop}
+use Rattle.logged_run.proofs.Prelude.{err_from_is_err_and, SinkState, ConfigValues, WorldPicture, WorldValue, WriteStop, Change, GainedText, change, WritesAll, Progress, HasCome, RunsToEnd, WritesLog, StopsRun, EndsRun, EndsWatched, IsAtEnd, RunsWatched, IsFinalWorld, run_text, BeginsAs, Watches, WritesLooks}
 use Rattle.written_texts.specs.declared.stop.WriteStop.TheVariants as stop
-use Rattle.written_texts.specs.SinkChanges.{Change, GainedText, change}
-use Rattle.written_texts.specs.WrittenText.{WritesAll}
-use Rattle.logged_run.specs.declared.publishing.Progress.{Progress}
-use Rattle.logged_run.specs.Publishing.{HasCome, RunsToEnd, WritesLog}
-use Rattle.logged_run.specs.RunStops.{StopsRun}
-use Rattle.logged_run.specs.RunText.{IsFinalWorld, run_text}
-use Rattle.logged_run.specs.Watching.{BeginsAs, Watches, WritesLooks}
-use Rattle.logged_run.specs.WatchedRun.{EndsRun, EndsWatched, IsAtEnd, RunsWatched}
 use Rattle.logged_run.proofs.NewsLemmas.{line_as}
 use Rattle.logged_run.proofs.PublishedLemmas.{last_heard}
 use Rattle.logged_run.proofs.WatchLemmas.{all_watched, last_stopped, nothing_run, runner_stopped, watcher_stopped}

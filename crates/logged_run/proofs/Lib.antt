@@ -1,3 +1,4 @@
+pub mod Prelude
 pub mod RunLemmas
 pub mod SumLemmas
 pub mod LookLemmas

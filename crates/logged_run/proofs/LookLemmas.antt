@@ -1,13 +1,7 @@
 -- Updates whose lines a watcher writes, look by look.
 use Rattle.std.proofs.Common.{◌≡◌, ◌⊎◌, ◌≤◌, ◌<◌, ◌+◌, ◌-◌, Bool, true, false, ℕ, List, [], ◌∷◌, ◌++◌, Option, None, Some, IfSome, length, take, get_or, refl, sym, ap, ◌∙◌, subst, inl, inr, append-nil, arith}
+use Rattle.logged_run.proofs.Prelude.{nat_tests, get_or_append_left, get_or_push, length_push, take_all, take_more, slice_get-get_or, last_of, last_of_more, AreSeen, is_news, newest_after, news, AreWatched}
 use Rattle.std.specs.List.Sorted.{IsStrictlyIncreasing}
-use Rattle.std.proofs.lemmas.Bool.Decides.{nat_tests}
-use Rattle.std.proofs.lemmas.List.{get_or_append_left, get_or_push, length_push, take_all, take_more}
-use Rattle.std.proofs.lemmas.Option.{slice_get-get_or}
-use Rattle.published_world.specs.PublicationHistory.{last_of}
-use Rattle.published_world.proofs.PublicationLemmas.{last_of_more}
-use Rattle.logged_run.specs.Watching.{AreSeen, is_news, newest_after, news}
-use Rattle.logged_run.specs.WatchText.{AreWatched}
 
 -- the last number, at its place
 at_end : (xs : List ℕ) (x : ℕ) → last_of xs ≡ Some x → 0 < length xs

@@ -1,11 +1,6 @@
 -- The line of a picture that is news, said of equal configurations and updates.
 use Rattle.std.proofs.Common.{◌≡◌, ℕ, Option, Result, subst}
-use Rattle.avida_port.specs.Ports.{SinkState}
-use Rattle.world_config.specs.Values.{ConfigValues}
-use Rattle.written_texts.specs.declared.stop.WriteStop.{WriteStop}
-use Rattle.written_texts.specs.WrittenText.{WritesAll}
-use Rattle.logged_run.specs.Watching.{news}
-use Rattle.logged_run.specs.WatchText.{pictures_text}
+use Rattle.logged_run.proofs.Prelude.{SinkState, ConfigValues, WriteStop, WritesAll, news, pictures_text}
 
 -- the line of the last picture, of another configuration and update that are equal to its own
 pub line_as : {T : Type 0} {a b : SinkState} {r : Result T WriteStop} {here there : ConfigValues}

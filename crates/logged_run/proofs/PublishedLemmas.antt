@@ -1,20 +1,7 @@
 -- The pictures of a run, which are published one by one.
 use Rattle.std.proofs.Common.{◌≡◌, ◌<◌, ◌≤◌, ◌+◌, ◌-◌, Bool, true, false, ℕ, List, [], ◌∷◌, ◌++◌, Option, None, Some, IfSome, length, nat_lt, refl, sym, ap, ◌∙◌, subst, arith}
-use mathlib.Core.List.{IsPrefix}
-use Rattle.std.proofs.lemmas.Bool.Decides.{nat_tests}
-use Rattle.std.proofs.lemmas.List.{length_push}
-use Rattle.std.proofs.lemmas.Option.{slice_get_within}
-use Rattle.published_world.specs.PublicationHistory.{IsPublication, MayFollow, last_of, longer}
+use Rattle.logged_run.proofs.Prelude.{IsPrefix, nat_tests, length_push, slice_get_within, IsPublication, MayFollow, last_of, longer, last_of_more, values_of, ConfigValues, WorldPicture, Progress, IsNew, HasCome, IsBegun, IsPublished, IsWorldAt, ArePictures, BeginsAs, IsHeard}
 use Rattle.published_world.proofs.PrefixLemmas.{get_in_longer, prefix_length}
-use Rattle.published_world.proofs.PublicationLemmas.{last_of_more}
-use Rattle.world_config.specs.Shown.{values_of}
-use Rattle.world_config.specs.Values.{ConfigValues}
-use Rattle.world_core.specs.declared.picture.WorldPicture.{WorldPicture}
-use Rattle.logged_run.specs.declared.publishing.Progress.{Progress}
-use Rattle.logged_run.specs.Beginnings.{IsNew}
-use Rattle.logged_run.specs.Publishing.{HasCome, IsBegun, IsPublished}
-use Rattle.logged_run.specs.RunText.{IsWorldAt}
-use Rattle.logged_run.specs.Watching.{ArePictures, BeginsAs, IsHeard}
 
 -- the configuration of a picture's run
 abbrev pub config_in : WorldPicture → ConfigValues

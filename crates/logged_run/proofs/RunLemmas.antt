@@ -1,12 +1,7 @@
 -- How the texts of a run add up.
 use Rattle.std.proofs.Common.{◌≡◌, ◌<◌, ◌+◌, ℕ, Result, Ok, Err, refl, add-one, arith, subst}
-use Rattle.avida_port.specs.Ports.{SinkState}
-use Rattle.world_config.specs.Values.{ConfigValues}
-use Rattle.world_rules.specs.LogText.{head_text, update_text, updates_text, end_text, log_text}
-use Rattle.written_texts.specs.declared.stop.WriteStop.{WriteStop}
-use Rattle.written_texts.specs.WrittenText.{WritesAll}
+use Rattle.logged_run.proofs.Prelude.{SinkState, ConfigValues, head_text, update_text, updates_text, end_text, log_text, WriteStop, WritesAll, writes_short, writes_then}
 use Rattle.written_texts.proofs.GrowingTexts.{Grows, part_stopped, part_written}
-use Rattle.written_texts.proofs.WriteLemmas.{writes_short, writes_then}
 
 -- the texts of the updates so far grow by the next one
 updates_grow : (config : ConfigValues) (end : ℕ)

@@ -1,15 +1,10 @@
 -- How what the updates of a run count adds up.
 use Rattle.std.proofs.Common.{◌≡◌, ◌∙◌, ◌+◌, ◌<◌, ◌^◌, ℕ, suc, length, length-append, sym, ap, subst, add-one, arith}
+use Rattle.logged_run.proofs.Prelude.{ConfigValues, WorldValue, update_text, updates_text, births_until, deaths_until, AreSmall, AreSumsOf, AreSumsWith, IsSumOver, IsSumWith, IsWorldAt}
 use Rattle.std.proofs.lemmas.List.FromFn.{sum_by-map-range_with_len_more}
 use Rattle.log_lines.specs.declared.stats.Stats.{Stats}
-use Rattle.world_config.specs.Values.{ConfigValues}
-use Rattle.world_core.specs.WorldValue.{WorldValue}
-use Rattle.world_rules.specs.LogText.{update_text, updates_text}
 use Rattle.world_rules.specs.Statistics.{stats_of}
 use Rattle.logged_run.specs.declared.sums.Sums.{Sums}
-use Rattle.logged_run.specs.RunCounts.{births_until, deaths_until}
-use Rattle.logged_run.specs.RunSums.{AreSmall, AreSumsOf, AreSumsWith, IsSumOver, IsSumWith}
-use Rattle.logged_run.specs.RunText.{IsWorldAt}
 
 -- the births of one more update
 births_more : (config : ConfigValues) (n : ℕ)

@@ -1,17 +1,8 @@
 -- What a run with a watcher leaves, by how the runner and the watcher ended.
 use Rattle.std.proofs.Common.{◌≡◌, ℕ, List, [], ◌∷◌, ◌++◌, Option, None, Some, IfSome, Result, Ok, Err, refl, sym, append-nil, arith, inl, inr, subst}
-use Rattle.avida_port.specs.Ports.{SinkState}
-use Rattle.world_config.specs.Values.{ConfigValues}
-use Rattle.written_texts.specs.declared.stop.WriteStop.{WriteStop}
+use Rattle.logged_run.proofs.Prelude.{SinkState, ConfigValues, WriteStop, Change, GainedFront, GainedText, SinkFailed, Stays, change, WritesAll, nothing_written, writes_short, writes_then, PutFailed, StopsRun, run_text, WritesLooks, news, AreWatched, GainedPictures, GainedPicturesFront, pictures_text}
 use Rattle.written_texts.specs.declared.stop.WriteStop.TheVariants as stop
-use Rattle.written_texts.specs.SinkChanges.{Change, GainedFront, GainedText, SinkFailed, Stays, change}
-use Rattle.written_texts.specs.WrittenText.{WritesAll}
 use Rattle.written_texts.proofs.GainedLemmas.{front_short, stays_front}
-use Rattle.written_texts.proofs.WriteLemmas.{nothing_written, writes_short, writes_then}
-use Rattle.logged_run.specs.RunStops.{PutFailed, StopsRun}
-use Rattle.logged_run.specs.RunText.{run_text}
-use Rattle.logged_run.specs.Watching.{WritesLooks, news}
-use Rattle.logged_run.specs.WatchText.{AreWatched, GainedPictures, GainedPicturesFront, pictures_text}
 use Rattle.logged_run.proofs.LookLemmas.{watched}
 use Rattle.logged_run.proofs.WatcherLemmas.{pictures_more}
 

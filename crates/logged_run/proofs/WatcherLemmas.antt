@@ -1,20 +1,11 @@
 -- What a watcher has written after some of its looks.
 use Rattle.std.proofs.Common.{◌≡◌, ◌≤◌, ◌+◌, ℕ, List, [], ◌++◌, Option, None, Some, IfOk, Result, Ok, Err, refl, sym, subst, arith}
-use mathlib.Core.List.{IsPrefix}
+use Rattle.logged_run.proofs.Prelude.{IsPrefix, SinkState, IsPublication, last_of, ConfigValues, WorldPicture, WriteStop, WritesAll, AreSeen, BeginsAs, HasLooked, LooksOn, Watches, WritesLooks, newest_after, news, pictures_text, stopped_same, wanting_after, writes_nothing, writes_same, writes_then}
 use Rattle.std.proofs.lemmas.Grind.{flat_map-append}
-use Rattle.avida_port.specs.Ports.{SinkState}
-use Rattle.published_world.specs.PublicationHistory.{IsPublication, last_of}
-use Rattle.world_config.specs.Values.{ConfigValues}
-use Rattle.world_core.specs.declared.picture.WorldPicture.{WorldPicture}
 use Rattle.world_rules.specs.Picture.{picture_of, picture_text}
-use Rattle.written_texts.specs.declared.stop.WriteStop.{WriteStop}
 use Rattle.written_texts.specs.declared.stop.WriteStop.TheVariants as stop
-use Rattle.written_texts.specs.WrittenText.{WritesAll}
-use Rattle.logged_run.specs.Watching.{AreSeen, BeginsAs, HasLooked, LooksOn, Watches, WritesLooks, newest_after, news}
-use Rattle.logged_run.specs.WatchText.{pictures_text}
 use Rattle.logged_run.proofs.LookLemmas.{seen_more, seen_nothing, seen_within}
 use Rattle.logged_run.proofs.PublishedLemmas.{begins_later, begun, config_in, looked}
-use Rattle.written_texts.proofs.WriteLemmas.{stopped_same, wanting_after, writes_nothing, writes_same, writes_then}
 
 -- no look was made
 pub looks_begun : (config : ConfigValues) (observed : List WorldPicture) (a : SinkState)

@@ -1,9 +1,5 @@
+pub mod Prelude
 pub mod RunText
-pub mod RunCounts
-pub mod RunSums
-pub mod WatchText
-pub mod RunStops
 pub mod Watching
-pub mod Publishing
-pub mod Beginnings
 pub mod WatchedRun
+pub mod Publishing

@@ -1,14 +1,11 @@
--- How far a run that publishes has come (docs/ARCHITECTURE.md, "Pictures and observers").
+-- How a run begins that publishes its pictures, and how far it has come (docs/ARCHITECTURE.md,
+-- "Pictures and observers").
 use Rattle.std.specs.Prelude.{◌≡◌, ◌+◌, ℕ, List, Option, None, Some, IfOk, IfSome, Result}
-use Rattle.avida_port.specs.Ports.{SinkState}
-use Rattle.world_config.specs.Shown.{values_of}
-use Rattle.world_config.specs.Values.{ConfigValues}
-use Rattle.world_core.specs.declared.picture.WorldPicture.{WorldPicture}
+use Rattle.logged_run.specs.Prelude.{SinkState, values_of, ConfigValues, WorldPicture, WriteStop, WritesAll}
 use Rattle.logged_run.specs.declared.publishing.Progress.{Progress}
-use Rattle.written_texts.specs.declared.stop.WriteStop.{WriteStop}
-use Rattle.written_texts.specs.WrittenText.{WritesAll}
 use Rattle.logged_run.specs.RunText.{IsWorldAt, run_text}
-use Rattle.logged_run.specs.Watching.{ArePictures}
+use Rattle.logged_run.specs.Watching.{ArePictures, BeginsAs}
+use Rattle.logged_run.specs.declared.beginning.Beginning.{Beginning}
 
 -- the pictures of all updates up to this one were published, and a note of the last tells of them
 pub record IsPublished (config : ConfigValues) (update : ℕ) (published : List WorldPicture)
@@ -47,3 +44,17 @@ pub record RunsToEnd (config : ConfigValues) (published : List WorldPicture)
     (before after : SinkState) (result : Result Progress WriteStop) : Type 0 where
   pub come : IfOk result (HasCome config config.updates published)
   pub log : WritesLog config before after result
+
+-- the world of update 0 of a configuration, with its picture
+pub record IsNew (config : ConfigValues) (progress : Progress) : Type 0 where
+  pub world_config : progress.world.config ≡ config
+  pub world_new : progress.world.update ≡ 0
+  pub picture_config : values_of progress.picture.value.config.value ≡ config
+  pub picture_new : progress.picture.value.update ≡ 0
+  pub untold : progress.note ≡ None
+
+-- a configuration's run was begun, and its first picture is published
+pub record IsBeginning (config : ConfigValues) (beginning : Beginning) : Type 0 where
+  pub config_is : values_of beginning.config.value ≡ config
+  pub begun : IsBegun config beginning.publisher beginning.progress
+  pub observed : BeginsAs config beginning.observer

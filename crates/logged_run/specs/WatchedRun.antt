@@ -1,18 +1,24 @@
--- How a run with a watcher ends (docs/ARCHITECTURE.md, "Pictures and observers").
-use Rattle.std.specs.Prelude.{◌≡◌, ℕ, List, Option, Some, Result, Ok, Err, IfErr, IfOk, OnOk}
-use Rattle.avida_port.specs.Ports.{SinkState}
-use Rattle.world_config.specs.Shown.{values_of}
-use Rattle.world_config.specs.Values.{ConfigValues}
-use Rattle.world_core.specs.declared.picture.WorldPicture.{WorldPicture}
-use Rattle.world_core.specs.WorldValue.{WorldValue}
-use Rattle.written_texts.specs.declared.stop.WriteStop.{WriteStop}
-use Rattle.written_texts.specs.SinkChanges.{Change, GainedText}
-use Rattle.written_texts.specs.WrittenText.{WritesAll}
+-- How a run with a watcher ends, and how the writing of one stops (docs/ARCHITECTURE.md, "Pictures
+-- and observers"; docs/FORMATS.md, "Statuses and fault lines").
+use Rattle.std.specs.Prelude.{◌≡◌, ◌⊎◌, ℕ, Option, None, Some, IfSome, List, Result, Ok, Err, IfErr, IfOk, OnOk}
+use Rattle.logged_run.specs.Prelude.{SinkState, ConfigValues, WriteStop, Change, GainedFront, GainedText, SinkFailed, values_of, WorldPicture, WorldValue, WritesAll}
+use Rattle.written_texts.specs.declared.stop.WriteStop.TheVariants.{Fault}
+use Rattle.logged_run.specs.RunText.{run_text, IsFinalWorld}
+use Rattle.logged_run.specs.Watching.{GainedPicturesFront, GainedPictures, pictures_text, BeginsAs, IsHeard, news}
 use Rattle.logged_run.specs.declared.publishing.Progress.{Progress}
-use Rattle.logged_run.specs.RunStops.{StopsRun}
-use Rattle.logged_run.specs.RunText.{IsFinalWorld, run_text}
-use Rattle.logged_run.specs.Watching.{BeginsAs, IsHeard, news}
-use Rattle.logged_run.specs.WatchText.{GainedPictures, pictures_text}
+
+-- the faults of `out` rose, or, where there is a watcher of so many looks, those of `watch`
+abbrev pub PutFailed : Option ℕ → Change SinkState → Change SinkState → Type 0
+PutFailed None out watch = SinkFailed out
+PutFailed (Some looks) out watch = SinkFailed out ⊎ SinkFailed watch
+
+-- how the writing of a run stops, which may have a watcher
+pub record StopsRun (looks : Option ℕ) (config : ConfigValues) (out watch : Change SinkState)
+    (stop : WriteStop) : Type 0 where
+  pub fault : stop ≡ Fault → PutFailed looks out watch
+  pub front : GainedFront out (run_text config)
+  pub whole_log : stop ≡ Fault → ¬ SinkFailed out → GainedText out (run_text config)
+  pub pictures : IfSome looks (λ n. GainedPicturesFront n config watch)
 
 -- a run has come to its end, and this was observed of it
 pub record IsAtEnd (observed : List WorldPicture) (progress : Progress) : Type 0 where

@@ -1,14 +1,33 @@
--- What a watcher has seen and written so far (docs/ARCHITECTURE.md, "Pictures and observers").
-use Rattle.std.specs.Prelude.{◌≡◌, ◌≤◌, ◌+◌, ◌&&◌, Bool, ℕ, List, [], ◌∷◌, Option, None, Some, IfSome, IfOk, OnOk, Result, Ok, Err, length, nat_le, nat_lt, if◌then◌else◌}
+-- What the watcher of a run has seen and written, look by look (docs/ARCHITECTURE.md, "Pictures and
+-- observers"; docs/FORMATS.md, "Watch lines").
+use Rattle.std.specs.Prelude.{◌≡◌, ◌≤◌, ◌+◌, ℕ, List, [], ◌∷◌, ◌++◌, flat_map, length, ◌&&◌, Bool, Option, None, Some, IfSome, IfOk, OnOk, Result, Ok, Err, nat_le, nat_lt, if◌then◌else◌}
+use Rattle.logged_run.specs.Prelude.{ConfigValues, picture_of, picture_text, Change, GainedFront, GainedText, SinkState, values_of, WorldPicture, WriteStop, WritesAll}
 use Rattle.std.specs.List.Sorted.{IsStrictlyIncreasing}
-use Rattle.avida_port.specs.Ports.{SinkState}
 use Rattle.published_world.specs.PublicationHistory.{first_of, last_of}
-use Rattle.world_config.specs.Shown.{values_of}
-use Rattle.world_config.specs.Values.{ConfigValues}
-use Rattle.world_core.specs.declared.picture.WorldPicture.{WorldPicture}
-use Rattle.written_texts.specs.declared.stop.WriteStop.{WriteStop}
-use Rattle.written_texts.specs.WrittenText.{WritesAll}
-use Rattle.logged_run.specs.WatchText.{pictures_text}
+
+-- the lines of the pictures of a run after these updates
+abbrev pub pictures_text : ConfigValues → List ℕ → List ℕ
+pictures_text config updates = flat_map (λ update. picture_text (picture_of config update)) updates
+
+-- the updates that a watcher of so many looks may write: they rise, and the last is the run's
+pub record AreWatched (looks last : ℕ) (updates : List ℕ) : Type 0 where
+  pub rising : IsStrictlyIncreasing updates
+  pub ends : (earlier : List ℕ) × (updates ≡ earlier ++ last ∷ [])
+  pub few : length updates ≤ looks + 1
+
+-- the sink gained the lines of such pictures
+pub record GainedPictures (looks : ℕ) (config : ConfigValues) (watch : Change SinkState)
+    : Type 0 where
+  pub updates : List ℕ
+  pub watched : AreWatched looks config.updates updates
+  pub gained : GainedText watch (pictures_text config updates)
+
+-- the sink gained a prefix of the lines of such pictures
+pub record GainedPicturesFront (looks : ℕ) (config : ConfigValues) (watch : Change SinkState)
+    : Type 0 where
+  pub updates : List ℕ
+  pub watched : AreWatched looks config.updates updates
+  pub gained : GainedFront watch (pictures_text config updates)
 
 -- the first of these pictures is that of a configuration's world of update 0
 pub record BeginsAs (config : ConfigValues) (pictures : List WorldPicture) : Type 0 where

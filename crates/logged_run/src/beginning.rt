@@ -1,7 +1,7 @@
 // How a run with an observer begins.
 ghost use Rattle.std.specs.Prelude.{◌≡◌, ◌≤◌, [], ◌∷◌, IfOk};
-ghost use Rattle.world_config.specs.Shown.{values_of};
-ghost use Rattle.logged_run.specs.Beginnings.{IsBeginning, IsNew};
+ghost use Rattle.logged_run.specs.Prelude.{values_of};
+ghost use Rattle.logged_run.specs.Publishing.{IsBeginning, IsNew};
 
 use crate::publishing::Progress;
 use avida_port::Memory;

@@ -1,10 +1,7 @@
 // A run that writes its log, and counts what its updates count together.
 ghost use Rattle.std.specs.Prelude.{◌≡◌, ◌≤◌, ◌<◌, ◌+◌, IfOk, length};
-ghost use Rattle.world_config.specs.Shown.{values_of};
-ghost use Rattle.world_rules.specs.LogText.{head_text, update_text, updates_text, end_text};
-ghost use Rattle.written_texts.specs.WrittenText.{WritesAll};
-ghost use Rattle.logged_run.specs.RunSums.{AreSumsOf, IsEndOf};
-ghost use Rattle.logged_run.specs.RunText.{IsFinalWorld, IsWorldAt, run_text};
+ghost use Rattle.logged_run.specs.Prelude.{values_of, head_text, update_text, updates_text, end_text, WritesAll};
+ghost use Rattle.logged_run.specs.RunText.{AreSumsOf, IsEndOf, IsFinalWorld, IsWorldAt, run_text};
 
 use crate::sums::{NO_SUMS, Sums};
 use avida_port::{Gate, Memory, Sink};

@@ -1,8 +1,6 @@
 // The runner of a run with a watcher: it publishes a picture of each update.
 ghost use Rattle.std.specs.Prelude.{◌≡◌, ◌<◌, ◌≤◌, ◌+◌, IfOk};
-ghost use Rattle.world_config.specs.Shown.{values_of};
-ghost use Rattle.world_rules.specs.LogText.{update_text, updates_text};
-ghost use Rattle.written_texts.specs.WrittenText.{WritesAll};
+ghost use Rattle.logged_run.specs.Prelude.{values_of, update_text, updates_text, WritesAll};
 ghost use Rattle.logged_run.specs.Publishing.{HasCome, IsBegun, IsPublished, RunsToEnd};
 ghost use Rattle.logged_run.specs.RunText.{IsWorldAt, run_text};
 ghost use Rattle.logged_run.specs.Watching.{ArePictures};

@@ -1,10 +1,9 @@
 // A run that writes its log, alone or with a watcher beside it.
 ghost use Rattle.std.specs.Prelude.{◌≡◌, ◌≤◌, None, IfOk, IfErr, OnOk, IfSome};
-ghost use Rattle.world_config.specs.Shown.{values_of};
-ghost use Rattle.written_texts.specs.SinkChanges.{GainedText, change};
-ghost use Rattle.logged_run.specs.RunStops.{StopsRun};
+ghost use Rattle.logged_run.specs.Prelude.{values_of, GainedText, change};
+ghost use Rattle.logged_run.specs.WatchedRun.{StopsRun};
 ghost use Rattle.logged_run.specs.RunText.{IsFinalWorld, run_text};
-ghost use Rattle.logged_run.specs.WatchText.{GainedPictures};
+ghost use Rattle.logged_run.specs.Watching.{GainedPictures};
 
 use crate::logging::write_log;
 use crate::watched_run::write_watched;

@@ -1,6 +1,6 @@
 // What some updates count together.
 ghost use Rattle.std.specs.Prelude.{◌<◌, ◌^◌};
-ghost use Rattle.logged_run.specs.RunSums.{AreSmall, AreSumsWith, IsSumWith};
+ghost use Rattle.logged_run.specs.RunText.{AreSmall, AreSumsWith, IsSumWith};
 
 use log_lines::Stats;
 

@@ -1,7 +1,6 @@
 // A run with a watcher beside it.
 ghost use Rattle.std.specs.Prelude.{◌≤◌};
-ghost use Rattle.world_config.specs.Shown.{values_of};
-ghost use Rattle.written_texts.specs.SinkChanges.{change};
+ghost use Rattle.logged_run.specs.Prelude.{values_of, change};
 ghost use Rattle.logged_run.specs.Publishing.{IsBegun, RunsToEnd};
 ghost use Rattle.logged_run.specs.Watching.{BeginsAs, Watches};
 ghost use Rattle.logged_run.specs.WatchedRun.{EndsWatched, IsAtEnd, RunsWatched};

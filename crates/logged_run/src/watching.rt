@@ -1,12 +1,7 @@
 // The watcher of a run.
 ghost use Rattle.std.specs.Prelude.{◌≡◌, ◌<◌, ℕ, IfOk, None, length};
-ghost use Rattle.avida_port.specs.Ports.{SinkState};
-ghost use Rattle.world_config.specs.Shown.{values_of};
-ghost use Rattle.world_config.specs.Values.{ConfigValues};
-ghost use Rattle.world_rules.specs.Picture.{picture_of, picture_text};
-ghost use Rattle.written_texts.specs.WrittenText.{WritesAll};
-ghost use Rattle.logged_run.specs.Watching.{BeginsAs, HasLooked, IsHeard, LooksOn, Watches, is_news, newest_after, news};
-ghost use Rattle.logged_run.specs.WatchText.{pictures_text};
+ghost use Rattle.logged_run.specs.Prelude.{SinkState, values_of, ConfigValues, picture_of, picture_text, WritesAll};
+ghost use Rattle.logged_run.specs.Watching.{BeginsAs, HasLooked, IsHeard, LooksOn, Watches, is_news, newest_after, news, pictures_text};
 
 use avida_port::{Memory, Sink};
 use published_world::{Note, Observer};

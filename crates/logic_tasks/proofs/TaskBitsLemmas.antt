@@ -10,8 +10,7 @@ use Rattle.std.proofs.lemmas.Nat.{or_lt}
 use Rattle.std.proofs.lemmas.Nat.Bits.{bit_at_set_same, bit_at_set_other}
 use Rattle.logic_tasks.specs.declared.task.Task.{Task}
 use Rattle.logic_tasks.specs.declared.task.Task.TheVariants.{Not}
-use Rattle.logic_tasks.specs.LogicTasks.{has_bit, task_place}
-use Rattle.logic_tasks.specs.TaskBits.{tasks_of}
+use Rattle.logic_tasks.specs.LogicTasks.{has_bit, task_place, tasks_of}
 use Rattle.logic_tasks.specs.TaskBitsLaws.{length-tasks_of, get_or-tasks_of, number_of-tasks_of}
 
 -- a task's place is in the table

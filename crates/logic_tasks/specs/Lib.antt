@@ -1,5 +1,3 @@
 pub mod LogicTasks
-pub mod TaskSet
-pub mod TaskBits
 pub mod TaskBitsLaws
 pub mod Inputs

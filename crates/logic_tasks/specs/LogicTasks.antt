@@ -1,5 +1,7 @@
--- The nine tasks and when an output does one (docs/MACHINE.md, "The tasks").
-use Rattle.std.specs.Prelude.{ℕ, ℤ, Bool, true, false, not, ◌&&◌, ◌||◌, ◌==◌, List, codes, [], ◌∷◌, length, Option, find, slice_index_or}
+-- The nine tasks, when an output does one, and sets of tasks: as numbers, where task number p of
+-- the table, from 1, has the value 2^(p - 1), and as lists that tell of each task whether the set
+-- has it (docs/MACHINE.md, "The tasks"; docs/FORMATS.md, "Saved worlds").
+use Rattle.std.specs.Prelude.{ℕ, ℤ, Bool, true, false, not, ◌&&◌, ◌||◌, ◌==◌, List, codes, [], ◌∷◌, length, Option, find, slice_index_or, ◌+◌, ◌*◌, map, if◌then◌else◌, replicate, slice_set}
 use Rattle.std.specs.Bool.{xor, beq}
 use Rattle.std.specs.Int.{bit_at, cast_unsigned, w32}
 use Rattle.std.specs.List.{list_all, list_any, range_with_len}
@@ -81,3 +83,24 @@ does task output known = list_any (does_with task output known) (range_with_len 
 unfoldable pub task_done : ℤ → List ℕ → ℕ → Option Task
 task_done output inputs read =
     find (λ task. does task (cast_unsigned w32 output) (known_inputs inputs read)) all_tasks
+
+-- the set that a number stands for
+unfoldable pub tasks_of : ℕ → List Bool
+tasks_of bits = map (has_bit bits) (range_with_len 0 9)
+
+-- the number of a set
+abbrev pub bits_of_tasks : List Bool → ℕ
+bits_of_tasks [] = 0
+bits_of_tasks (task ∷ tasks) = (if task then 1 else 0) + 2 * bits_of_tasks tasks
+
+-- the empty set
+abbrev pub no_tasks : List Bool
+no_tasks = replicate 9 false
+
+-- whether a set has a task
+abbrev pub has_task : List Bool → Task → Bool
+has_task tasks task = slice_index_or tasks (task_place task) false
+
+-- a set and one task
+abbrev pub with_task : List Bool → Task → List Bool
+with_task tasks task = slice_set tasks (task_place task) true

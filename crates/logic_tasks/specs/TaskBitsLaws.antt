@@ -5,8 +5,7 @@ use Rattle.std.proofs.Common.{◌∙◌, ap, subst, suc, zero, cond, arith, ◌=
 use Rattle.std.proofs.Math.Nat.{pow-suc}
 use Rattle.std.proofs.lemmas.List.FromFn.{get_or-map-range_with_len, length-map-range_with_len}
 use Rattle.std.proofs.lemmas.Nat.Bits.{bit_at-suc, bit_at_lowest, bit_at-zero, bit_at-lt, same_from_bits_below}
-use Rattle.logic_tasks.specs.LogicTasks.{has_bit}
-use Rattle.logic_tasks.specs.TaskBits.{tasks_of, bits_of_tasks}
+use Rattle.logic_tasks.specs.LogicTasks.{has_bit, tasks_of, bits_of_tasks}
 
 -- a digit is 0 or 1
 pub digit-small : (b : Bool) → cond b 1 0 < 2

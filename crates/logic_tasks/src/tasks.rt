@@ -2,8 +2,7 @@
 ghost use Rattle.std.specs.Prelude.{◌≡◌, ◌<◌, ◌==◌};
 ghost use Rattle.std.specs.Cmp.Rules.{comparing};
 ghost use Rattle.std.proofs.Common.{rules};
-ghost use Rattle.logic_tasks.specs.TaskBits.{bits_of_tasks, tasks_of};
-ghost use Rattle.logic_tasks.specs.TaskSet.{no_tasks, has_task, with_task};
+ghost use Rattle.logic_tasks.specs.LogicTasks.{bits_of_tasks, tasks_of, no_tasks, has_task, with_task};
 
 use crate::Task;
 use std::marker::Model;
@@ -17,7 +16,7 @@ pub struct Tasks {
 impl Model for Tasks {
     ghost use Rattle.std.specs.Prelude.{◌<◌, List, Bool};
     ghost use Rattle.std.proofs.Common.{ap};
-    ghost use Rattle.logic_tasks.specs.TaskBits.{tasks_of, bits_of_tasks};
+    ghost use Rattle.logic_tasks.specs.LogicTasks.{tasks_of, bits_of_tasks};
     ghost use Rattle.logic_tasks.specs.TaskBitsLaws.{number_of-tasks_of};
 
     ghost Value = { List Bool };

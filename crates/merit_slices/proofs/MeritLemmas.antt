@@ -2,8 +2,7 @@
 use Rattle.std.proofs.Common.{◌≡◌, ◌∙◌, ℕ, ◌*◌, ◌^◌, ◌≤◌, Bool, true, false, List, take, arith, sum_by, cond, one-mul, ap, ◌%◌}
 use Rattle.std.proofs.Math.Nat.{pow-le-pow_right, one-le-pow, mul-le-mul, mod-eq_of_lt}
 use Rattle.std.proofs.lemmas.List.Sums.{sum_by-le-sum_by}
-use Rattle.logic_tasks.specs.LogicTasks.{all_tasks}
-use Rattle.logic_tasks.specs.TaskSet.{has_task}
+use Rattle.logic_tasks.specs.LogicTasks.{all_tasks, has_task}
 use Rattle.merit_slices.specs.Merit.{exponent_of, exponent_in, exponent_sum}
 
 -- a part of a number

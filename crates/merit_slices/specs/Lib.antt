@@ -1,4 +1,3 @@
 pub mod Merit
 pub mod Slices
 pub use Rattle.logic_tasks.specs.LogicTasks
-pub use Rattle.logic_tasks.specs.TaskSet

@@ -2,8 +2,7 @@
 use Rattle.std.specs.Prelude.{ℕ, ◌*◌, ◌^◌, min, Bool, List, sum_by, if◌then◌else◌}
 use Rattle.logic_tasks.specs.declared.task.Task.{Task}
 use Rattle.logic_tasks.specs.declared.task.Task.TheVariants.{Not, Nand, And, Orn, Or, Andn, Nor, Xor, Equ}
-use Rattle.logic_tasks.specs.LogicTasks.{all_tasks}
-use Rattle.logic_tasks.specs.TaskSet.{has_task}
+use Rattle.logic_tasks.specs.LogicTasks.{all_tasks, has_task}
 
 -- how often a task doubles the merit
 abbrev pub exponent_of : Task → ℕ

@@ -1,18 +1,8 @@
 -- The record of a birth and the child that it makes.
 use Rattle.std.proofs.Common.{◌≡◌, refl, sym, ℕ, inl, inr, List, [], length, Ok, unwrap_or, Option, IsNone, ◌↔◌}
-use Rattle.std.specs.Bool.{Decides}
+use Rattle.mutations.proofs.Prelude.{Decides, Letter, same_letters, Stream, word_of, Change, RateNumbers, LengthRange, Insertion, Deletion, Drawn, in_turn, pointed_text, after_points, points_from, Draft, indels, draft_after, drawn_by_divide, written_of, child_of, Makes, PassState, Passed}
 use Rattle.std.proofs.lemmas.Bool.{cases_Bool}
 use Rattle.std.proofs.lemmas.Slice.Eq.{slice_eq-Decides}
-use Rattle.instruction_set.specs.declared.letter.Letter.{Letter}
-use Rattle.instruction_set.specs.Letter.{same_letters}
-use Rattle.random_streams.specs.RandomStream.{Stream, word_of}
-use Rattle.mutations.specs.declared.change.Change.{Change}
-use Rattle.mutations.specs.Rates.{RateNumbers, LengthRange}
-use Rattle.mutations.specs.declared.indels.Indel.TheVariants.{Insertion, Deletion}
-use Rattle.mutations.specs.DivideErrors.{Drawn, in_turn, pointed_text, after_points, points_from}
-use Rattle.mutations.specs.Indels.{Draft, indels, draft_after}
-use Rattle.mutations.specs.BirthRecord.{drawn_by_divide, written_of, child_of}
-use Rattle.mutations.specs.Pass.{Makes, PassState, Passed}
 use Rattle.mutations.proofs.ChangeLemmas.{Passed-append}
 use Rattle.mutations.proofs.IndelKinds.{indels-kind}
 use Rattle.mutations.proofs.IndelPasses.{draft-passed}

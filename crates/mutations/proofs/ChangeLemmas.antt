@@ -1,14 +1,7 @@
 -- Changes made one after another.
 use Rattle.std.proofs.Common.{◌≡◌, refl, sym, ◌∙◌, ap, ℕ, ◌+◌, ◌<◌, Bool, true, false, cond, List, [], ◌∷◌, ◌++◌, length, append_assoc, append-nil, drop, get_or, drop-cons, add-one, Result, Ok, Err, arith}
-use Rattle.instruction_set.specs.declared.letter.Letter.{Letter}
-use Rattle.instruction_set.specs.declared.letter.Letter.TheVariants.{NopA}
-use Rattle.mutations.specs.declared.change.Change.{Change}
+use Rattle.mutations.proofs.Prelude.{Letter, NopA, Change, Place, Length, text_after, with_change, has_place, is_genome_length, Makes, PassState, Passed, Stream, Drawn, none_by, in_turn}
 use Rattle.mutations.specs.declared.stop.ApplyStop.{ApplyStop}
-use Rattle.mutations.specs.declared.stop.ApplyStop.TheVariants.{Place, Length}
-use Rattle.mutations.specs.Change.{text_after, with_change, has_place, is_genome_length}
-use Rattle.random_streams.specs.RandomStream.{Stream}
-use Rattle.mutations.specs.DivideErrors.{Drawn, none_by, in_turn}
-use Rattle.mutations.specs.Pass.{Makes, PassState, Passed}
 
 -- a step that gave a text took neither refusal
 pub step-made : (placed fits : Bool) (rest : Result (List Letter) ApplyStop)

@@ -1,19 +1,7 @@
 -- Records that words draw have the form of a record in a log.
 use Rattle.std.proofs.Common.{◌≡◌, refl, ◌∙◌, ap, ℕ, ◌+◌, ◌<◌, ◌≤◌, ◌^◌, Bool, true, false, cond, ◌&&◌, List, [], ◌∷◌, ◌++◌, length, append_assoc, Ok, None, Some, arith, IfSome}
-use Rattle.std.specs.List.{AllByRecursion}
+use Rattle.mutations.proofs.Prelude.{AllByRecursion, Letter, same_letter, same_letters, Change, Point, Insert, Delete, Place, Length, text_after, with_change, has_place, is_genome_length, AreTextsOfChild, RateNumbers, LengthRange, Insertion, Deletion, Drawn, pointed_text, after_points, points_from, Draft, indels, draft_after, drawn_by_divide, origin_of}
 use Rattle.std.proofs.lemmas.Bool.Decides.{nat_tests}
-use Rattle.instruction_set.specs.declared.letter.Letter.{Letter}
-use Rattle.instruction_set.specs.Letter.{same_letter, same_letters}
-use Rattle.mutations.specs.declared.change.Change.{Change}
-use Rattle.mutations.specs.declared.change.Change.TheVariants.{Point, Insert, Delete}
-use Rattle.mutations.specs.declared.stop.ApplyStop.TheVariants.{Place, Length}
-use Rattle.mutations.specs.Change.{text_after, with_change, has_place, is_genome_length}
-use Rattle.mutations.specs.ChildTexts.{AreTextsOfChild}
-use Rattle.mutations.specs.Rates.{RateNumbers, LengthRange}
-use Rattle.mutations.specs.declared.indels.Indel.TheVariants.{Insertion, Deletion}
-use Rattle.mutations.specs.DivideErrors.{Drawn, pointed_text, after_points, points_from}
-use Rattle.mutations.specs.Indels.{Draft, indels, draft_after}
-use Rattle.mutations.specs.BirthRecord.{drawn_by_divide, origin_of}
 use Rattle.mutations.specs.RecordForm.{HasGenomeLength, IsSmall, FitsChange, change_may_follow, in_order, HasRecordForm}
 use Rattle.mutations.proofs.ChangeLemmas.{step-made}
 use Rattle.mutations.proofs.IndelLemmas.{IsIndel}

@@ -1,13 +1,6 @@
 -- All indels that a pass draws are of its kind.
 use Rattle.std.proofs.Common.{ℕ, zero, suc, eqb, Bool, true, false, cond, List, [], ◌∷◌, ◌++◌}
-use Rattle.std.specs.List.{AllByRecursion}
-use Rattle.mutations.specs.declared.change.Change.{Change}
-use Rattle.mutations.specs.declared.indels.Indel.{Indel}
-use Rattle.mutations.specs.declared.indels.Indel.TheVariants.{Insertion, Deletion}
-use Rattle.mutations.specs.declared.indels.IndelTest.{IndelTest}
-use Rattle.mutations.specs.Rates.{RateNumbers, LengthRange}
-use Rattle.mutations.specs.DivideErrors.{Drawn, none_by}
-use Rattle.mutations.specs.Indels.{Draft, Spot, indel_at, test_at, site_rate, site_indel, indels_from, site_indels, indels}
+use Rattle.mutations.proofs.Prelude.{AllByRecursion, Change, Indel, Insertion, Deletion, IndelTest, RateNumbers, LengthRange, Drawn, none_by, Draft, Spot, indel_at, test_at, site_rate, site_indel, indels_from, site_indels, indels}
 use Rattle.mutations.proofs.IndelLemmas.{IsIndel, picked}
 
 -- two lists of one kind

@@ -1,19 +1,7 @@
 -- Indels, drawn one at a time: what they make of a text.
 use Rattle.std.proofs.Common.{◌≡◌, refl, sym, ◌∙◌, ap, ℕ, ◌+◌, ◌<◌, ◌≤◌, Bool, true, false, cond, ltb, ◌&&◌, List, [], ◌∷◌, ◌++◌, length, Ok, arith, append_assoc, length-append}
+use Rattle.mutations.proofs.Prelude.{AllByRecursion, insert, remove, Letter, Change, Insert, Delete, Indel, Insertion, Deletion, Place, Length, text_after, with_change, has_place, is_genome_length, Makes, Fits, letter_of_word, Drawn, LengthRange, Spot, has_room, place_count, indel_at, length_after}
 use Rattle.std.proofs.lemmas.List.Edits.{length-insert, length-remove}
-use Rattle.std.specs.List.{AllByRecursion, insert, remove}
-use Rattle.instruction_set.specs.declared.letter.Letter.{Letter}
-use Rattle.mutations.specs.declared.change.Change.{Change}
-use Rattle.mutations.specs.declared.change.Change.TheVariants.{Insert, Delete}
-use Rattle.mutations.specs.declared.indels.Indel.{Indel}
-use Rattle.mutations.specs.declared.indels.Indel.TheVariants.{Insertion, Deletion}
-use Rattle.mutations.specs.declared.stop.ApplyStop.TheVariants.{Place, Length}
-use Rattle.mutations.specs.Change.{text_after, with_change, has_place, is_genome_length}
-use Rattle.mutations.specs.CopyError.{letter_of_word}
-use Rattle.mutations.specs.Rates.{LengthRange}
-use Rattle.mutations.specs.DivideErrors.{Drawn}
-use Rattle.mutations.specs.Indels.{Spot, has_room, place_count, indel_at, length_after}
-use Rattle.mutations.specs.Pass.{Makes, Fits}
 use Rattle.mutations.proofs.ChangeLemmas.{Makes-one, Makes-none, step-made}
 
 -- an indel of this kind

@@ -1,15 +1,6 @@
 -- What functions have done that test a text for indels.
 use Rattle.std.proofs.Common.{◌≡◌, sym, ◌∙◌, ap, subst, ℕ, suc, ◌+◌, ◌-◌, ◌<◌, true, ◌&&◌, List, [], ◌∷◌, ◌++◌, length, drop, arith, append-nil, length-append, length-drop, get_or}
-use Rattle.instruction_set.specs.declared.letter.Letter.{Letter}
-use Rattle.instruction_set.specs.declared.letter.Letter.TheVariants.{NopA}
-use Rattle.random_streams.specs.RandomStream.{Stream, word_of, next_word, hits}
-use Rattle.mutations.specs.declared.indels.Indel.{Indel}
-use Rattle.mutations.specs.declared.indels.IndelTest.{IndelTest}
-use Rattle.mutations.specs.CopyError.{letter_of_word}
-use Rattle.mutations.specs.Rates.{RateNumbers, LengthRange}
-use Rattle.mutations.specs.DivideErrors.{Drawn}
-use Rattle.mutations.specs.Indels.{Draft, Spot, has_room, indel_at, length_after, draft_after, test_range, test_at, site_rate, single_rate, site_indel, indels_from, site_indels, single_indel, indels}
-use Rattle.mutations.specs.Pass.{PassState, Passed, Fits}
+use Rattle.mutations.proofs.Prelude.{Letter, NopA, Stream, word_of, next_word, hits, Indel, IndelTest, letter_of_word, Drawn, RateNumbers, LengthRange, Draft, Spot, has_room, indel_at, length_after, draft_after, test_range, test_at, site_rate, single_rate, site_indel, indels_from, site_indels, single_indel, indels, PassState, Passed, Fits}
 use Rattle.mutations.proofs.ChangeLemmas.{Left, Left-next, Left-none, Passed-append, drop-here}
 use Rattle.mutations.proofs.IndelLemmas.{changes-resize, length_after-is, place-after, second-passes, Room, with_indel, Makes-indel, front_after, with_indel-middle, Room-middle}
 use Rattle.mutations.proofs.IndelKinds.{AreOfKind, site_indel-kind, site_indels-kind}

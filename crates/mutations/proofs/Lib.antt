@@ -1,3 +1,4 @@
+pub mod Prelude
 pub mod BirthLemmas
 pub mod ChangeLemmas
 pub mod FormLemmas

@@ -1,15 +1,6 @@
 -- Points make a text of the clean one.
 use Rattle.std.proofs.Common.{◌≡◌, refl, ap, ℕ, ◌+◌, ◌<◌, Bool, true, false, cond, List, [], ◌∷◌, ◌++◌, length, set, arith, append_assoc, length-append, length-set}
-use Rattle.std.specs.Bool.{Decides}
-use Rattle.std.proofs.lemmas.Grind.{common_steps}
-use Rattle.genome.specs.Genome.{IsGenome}
-use Rattle.instruction_set.specs.declared.letter.Letter.{Letter}
-use Rattle.instruction_set.specs.Letter.{same_letter}
-use Rattle.mutations.specs.declared.change.Change.{Change}
-use Rattle.mutations.specs.declared.change.Change.TheVariants.{Point}
-use Rattle.mutations.specs.Change.{with_change, is_genome_length}
-use Rattle.mutations.specs.DivideErrors.{points_from}
-use Rattle.mutations.specs.Pass.{Makes}
+use Rattle.mutations.proofs.Prelude.{Decides, common_steps, IsGenome, Letter, same_letter, Change, Point, with_change, is_genome_length, Makes, points_from}
 use Rattle.mutations.proofs.ChangeLemmas.{Makes-append, Makes-one, Makes-none}
 
 -- the test of two letters tells which are one

@@ -1,15 +1,6 @@
 -- How many words the errors of a divide take.
 use Rattle.std.proofs.Common.{◌≡◌, refl, ℕ, zero, suc, ◌+◌, ◌*◌, ◌≤◌, Bool, true, false, cond, eqb, List, [], ◌∷◌, ◌++◌, length, arith, length-append}
-use Rattle.instruction_set.specs.declared.letter.Letter.{Letter}
-use Rattle.mutations.specs.declared.change.Change.{Change}
-use Rattle.mutations.specs.declared.indels.Indel.{Indel}
-use Rattle.mutations.specs.declared.indels.Indel.TheVariants.{Insertion, Deletion}
-use Rattle.mutations.specs.declared.indels.IndelTest.{IndelTest}
-use Rattle.mutations.specs.CopyError.{after_error}
-use Rattle.mutations.specs.Rates.{RateNumbers, LengthRange}
-use Rattle.mutations.specs.DivideErrors.{Drawn, none_by, after_sites, after_points}
-use Rattle.mutations.specs.Indels.{Draft, Spot, indel_at, length_after, draft_after, test_at, site_rate, single_rate, site_indel, indels_from, site_indels, single_indel, single_spot, indels}
-use Rattle.mutations.specs.BirthRecord.{drawn_by_divide}
+use Rattle.mutations.proofs.Prelude.{Letter, Change, Indel, Insertion, Deletion, IndelTest, after_error, Drawn, none_by, after_sites, after_points, RateNumbers, LengthRange, Draft, Spot, indel_at, length_after, draft_after, test_at, site_rate, single_rate, site_indel, indels_from, site_indels, single_indel, single_spot, indels, drawn_by_divide}
 use Rattle.mutations.proofs.IndelLemmas.{picked}
 
 -- the words that the letters of so many indels take

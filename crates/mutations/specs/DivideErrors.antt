@@ -1,11 +1,25 @@
--- The errors of a divide, as words draw them (docs/WORLD.md, "Records of birth").
--- Word k is the one that makes the first test.
-use Rattle.std.specs.Prelude.{ℕ, ◌+◌, ◌==◌, if◌then◌else◌, List, [], ◌∷◌, ◌++◌, unwrap_or}
+-- The errors of copying and of a divide, as words draw them (docs/WORLD.md, "Copy errors" and
+-- "Records of birth"). Word k is the one that makes the first test.
+use Rattle.std.specs.Prelude.{ℕ, ◌+◌, Option, None, Some, unwrap_or, if◌then◌else◌, ◌==◌, List, [], ◌∷◌, ◌++◌}
 use Rattle.instruction_set.specs.declared.letter.Letter.{Letter}
-use Rattle.instruction_set.specs.Letter.{same_letter}
+use Rattle.instruction_set.specs.declared.letter.Letter.TheVariants.{NopA}
+use Rattle.instruction_set.specs.Letter.{letter_at, same_letter}
+use Rattle.random_streams.specs.RandomStream.{scaled, hits}
 use Rattle.mutations.specs.declared.change.Change.{Change}
 use Rattle.mutations.specs.declared.change.Change.TheVariants.{Point}
-use Rattle.mutations.specs.CopyError.{error_letter, after_error}
+
+-- the letter that a word draws
+unfoldable pub letter_of_word : ℕ → Letter
+letter_of_word word = unwrap_or (letter_at (scaled word 26)) NopA
+
+-- the letter that is put in where word k hits, drawn by the word after it
+abbrev pub error_letter : (ℕ → ℕ) → ℕ → ℕ → Option Letter
+error_letter words rate k =
+    if hits (words k) rate then Some (letter_of_word (words (k + 1))) else None
+
+-- the number of the word after those of a test by word k
+abbrev pub after_error : (ℕ → ℕ) → ℕ → ℕ → ℕ
+after_error words rate k = if hits (words k) rate then k + 2 else k + 1
 
 -- more words than any birth takes
 abbrev pub birth_words : ℕ

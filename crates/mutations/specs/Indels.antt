@@ -7,8 +7,7 @@ use Rattle.mutations.specs.declared.change.Change.TheVariants.{Insert, Delete}
 use Rattle.mutations.specs.declared.indels.Indel.{Indel}
 use Rattle.mutations.specs.declared.indels.Indel.TheVariants.{Insertion, Deletion}
 use Rattle.mutations.specs.declared.indels.IndelTest.{IndelTest}
-use Rattle.mutations.specs.CopyError.{letter_of_word}
-use Rattle.mutations.specs.DivideErrors.{Drawn, none_by, in_turn}
+use Rattle.mutations.specs.DivideErrors.{letter_of_word, Drawn, none_by, in_turn}
 use Rattle.mutations.specs.Rates.{RateNumbers, LengthRange}
 
 -- the lengths that the text of a test may have

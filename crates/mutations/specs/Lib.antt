@@ -1,12 +1,8 @@
 pub mod BirthRecord
 pub mod Change
 pub mod ChildTexts
-pub mod CopyError
 pub mod DivideErrors
-pub mod DrawnRecords
 pub mod Indels
-pub mod Pass
-pub mod RateNames
 pub mod Rates
 pub mod RecordForm
 pub use Rattle.genome.specs.Genome

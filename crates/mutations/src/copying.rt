@@ -1,7 +1,7 @@
 // Tests of a rate that may draw a letter.
 ghost use Rattle.std.specs.Prelude.{◌≡◌, ◌+◌, ◌-◌, ◌<◌, ◌≤◌, ◌↔◌, IsNone, IsFalse};
 ghost use Rattle.random_streams.specs.RandomStream.{word_of, next_word, after, hits, word_count, million};
-ghost use Rattle.mutations.specs.CopyError.{letter_of_word, error_letter, after_error};
+ghost use Rattle.mutations.specs.DivideErrors.{letter_of_word, error_letter, after_error};
 
 use crate::Rates;
 use instruction_set::Letter;
@@ -40,7 +40,7 @@ pub(crate) fn error_letter(rate: u32, draws: &mut Draws) -> Option<Letter>
 /// The letter that the next word draws.
 #[cold]
 #[inline(never)]
-#[tactic(auto, unfolding(crate::specs::CopyError::letter_of_word))]
+#[tactic(auto, unfolding(crate::specs::DivideErrors::letter_of_word))]
 pub(crate) fn drawn_letter(draws: &mut Draws) -> Letter
     requires { draws.old.taken < word_count }
     ensures letter { result ≡ letter_of_word (next_word draws.old) }

@@ -7,7 +7,7 @@ ghost use Rattle.mutations.specs.ChildTexts.{AreTextsOfChild, IsLengthWithin, Ta
 ghost use Rattle.mutations.specs.DivideErrors.{birth_words};
 ghost use Rattle.mutations.specs.Rates.{numbers_of, range_of};
 ghost use Rattle.mutations.specs.BirthRecord.{record_of, child_of, origin_of, written_in, written_of, drawn_by_divide};
-ghost use Rattle.mutations.specs.Pass.{Fits, Passed};
+ghost use Rattle.mutations.specs.Change.{Fits, Passed};
 
 use crate::indels::{Indel, draw_indels};
 use crate::site_points::{pointed_text, points};

@@ -4,7 +4,7 @@ ghost use Rattle.instruction_set.specs.declared.letter.Letter.{Letter};
 ghost use Rattle.random_streams.specs.RandomStream.{word_of, next_word, after, hits, word_count, million};
 ghost use Rattle.mutations.specs.Indels.{has_room, site_indel, indels_from, site_indels, single_indel, site_rate, single_rate, test_at, test_range, indels};
 ghost use Rattle.mutations.specs.Rates.{numbers_of, range_of};
-ghost use Rattle.mutations.specs.Pass.{Passed, Fits};
+ghost use Rattle.mutations.specs.Change.{Passed, Fits};
 
 use crate::copying::drawn_letter;
 use crate::{Change, Changes, Limits, Rates};

@@ -1,7 +1,6 @@
 ghost use Rattle.std.specs.Prelude.{◌≡◌, IsOkAnd};
-ghost use Rattle.mutations.specs.ChildTexts.{IsLengthWithin};
+ghost use Rattle.mutations.specs.ChildTexts.{IsLengthWithin, OfDrawnRecords};
 ghost use Rattle.mutations.specs.DivideErrors.{birth_words};
-ghost use Rattle.mutations.specs.DrawnRecords.{OfDrawnRecords};
 ghost use Rattle.mutations.specs.BirthRecord.{child_of};
 ghost use Rattle.mutations.specs.RecordForm.{HasRecordForm};
 

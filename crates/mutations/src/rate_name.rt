@@ -1,5 +1,5 @@
 ghost use Rattle.std.specs.Prelude.{◌≡◌};
-ghost use Rattle.mutations.specs.RateNames.{name_of_rate, rate_named};
+ghost use Rattle.mutations.specs.Rates.{name_of_rate, rate_named};
 
 /// A rate by its name, in the order of `Rates`.
 #[derive(Clone, Copy, Debug)]
@@ -28,7 +28,7 @@ impl RateName {
     }
 
     /// The rate of this name. None for every other text.
-    #[tactic(auto, unfolding(crate::specs::RateNames::rate_named))]
+    #[tactic(auto, unfolding(crate::specs::Rates::rate_named))]
     pub fn from_name(name: &[u8]) -> Option<RateName>
         ensures rate { result ≡ rate_named name.now }
     {

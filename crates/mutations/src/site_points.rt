@@ -4,7 +4,7 @@ ghost use Rattle.instruction_set.specs.declared.letter.Letter.{Letter};
 ghost use Rattle.genome.specs.Genome.{IsGenome};
 ghost use Rattle.random_streams.specs.RandomStream.{word_of, word_count, million};
 ghost use Rattle.mutations.specs.DivideErrors.{site_text, after_sites, pointed_text, after_points, points_from};
-ghost use Rattle.mutations.specs.Pass.{Makes};
+ghost use Rattle.mutations.specs.Change.{Makes};
 
 use crate::copying::error_letter;
 use crate::{Change, Changes};

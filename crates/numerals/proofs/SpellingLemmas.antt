@@ -9,8 +9,7 @@ use Rattle.std.proofs.lemmas.Bool.Decides.{nat_tests}
 use Rattle.std.proofs.lemmas.Option.{cond_some}
 use Rattle.std.proofs.lemmas.Str.Parse.{IsNumeralModel, numerals_by_value, tells_all_ascii_digits}
 use Rattle.std.proofs.lemmas.Fmt.{digits_decimal, digits_value-decimal, decimal-digits_value, decimal_nonempty, first_decimal, decimal_digit}
-use Rattle.numerals.specs.Numeral.{is_numeral, number_of}
-use Rattle.numerals.specs.Spelling.{OneNumber}
+use Rattle.numerals.specs.Numeral.{is_numeral, number_of, OneNumber}
 
 -- the test for digits alone, and their value, mean what the library's words do
 own : IsNumeralModel (λ ds. all_ascii_digits ds ≡ true) (λ ds. digits_value 10 ds)

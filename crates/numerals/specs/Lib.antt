@@ -1,2 +1,1 @@
 pub mod Numeral
-pub mod Spelling

@@ -1,7 +1,7 @@
 -- Numbers as the log and the command line spell them (docs/FORMATS.md).
-use Rattle.std.specs.Prelude.{ℕ, ◌==◌, ◌&&◌, Bool, false, not, nat_le, if◌then◌else◌, List, [], ◌∷◌, take_while, Option, Some, None}
+use Rattle.std.specs.Prelude.{ℕ, ◌==◌, ◌&&◌, Bool, false, not, nat_le, if◌then◌else◌, List, [], ◌∷◌, take_while, Option, Some, None, ◌≡◌, ◌≤◌, ◌<◌, ◌^◌, decimal}
 use Rattle.std.specs.Char.{is_ascii_digit}
-use Rattle.std.specs.List.{prefix_len}
+use Rattle.std.specs.List.{prefix_len, AllByRecursion}
 use Rattle.std.specs.Str.{all_ascii_digits}
 use Rattle.std.specs.Str.Parse.{digits_value}
 
@@ -25,3 +25,13 @@ number_of least greatest text =
     if is_numeral text && nat_le (digits_value 10 text) greatest
     && nat_le least (digits_value 10 text)
     then Some (digits_value 10 text) else None
+
+-- a number in a range is read from its digits, and from no other text
+pub record OneNumber : Type 0 where
+  pub again : (least greatest n : ℕ) → greatest < 2 ^ 64 → least ≤ n → n ≤ greatest
+      → number_of least greatest (decimal n) ≡ Some n
+  pub takes : (least greatest n : ℕ) (text : List ℕ) → greatest < 2 ^ 64
+      → number_of least greatest text ≡ Some n → (decimal n ≡ text) × (least ≤ n) × (n ≤ greatest)
+  pub digits : (n : ℕ) → n < 2 ^ 64 → AllByRecursion (λ b. (48 ≤ b) × (b ≤ 57)) (decimal n)
+  pub no_digits : (least greatest : ℕ) → number_of least greatest [] ≡ None
+  pub no_minus : (least greatest : ℕ) (text : List ℕ) → number_of least greatest (45 ∷ text) ≡ None

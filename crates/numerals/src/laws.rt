@@ -1,4 +1,4 @@
-ghost use Rattle.numerals.specs.Spelling.{OneNumber};
+ghost use Rattle.numerals.specs.Numeral.{OneNumber};
 
 /// A number in the range has one spelling, of digits alone; no text without digits and none that
 /// begins with `-` is a number.

@@ -1,12 +1,6 @@
 -- What follows from the answers of a machine.
 use Rattle.std.proofs.Common.{◌≡◌, refl}
-use Rattle.divide_rules.specs.Rules.{RuleNumbers}
-use Rattle.virtual_cpu.specs.declared.step_answer.StepAnswer.{StepAnswer}
-use Rattle.virtual_cpu.specs.declared.step_answer.StepAnswer.TheVariants.{Plain, Copied, Output, Asks, Allocated}
-use Rattle.virtual_cpu.specs.Step.{TellsNothing}
-use Rattle.organism.specs.Life.{after_did}
-use Rattle.organism.specs.OrganismState.{OrganismState}
-use Rattle.organism.specs.declared.outcome.Outcome.TheVariants.{Nothing}
+use Rattle.organism.proofs.Prelude.{RuleNumbers, StepAnswer, Plain, Copied, Output, Asks, Allocated, TellsNothing, after_did, OrganismState, Nothing}
 
 -- where a machine tells nothing, nothing follows
 pub nothing_follows : (o : OrganismState) (rules : RuleNumbers) (did : StepAnswer)

@@ -1,12 +1,6 @@
 -- The child of a divide.
 use Rattle.std.proofs.Common.{◌≡◌, ℕ, ◌-◌, ◌≤◌, List, length, drop, arith, length-take, length-drop, Result, Ok, Err, IfOk, OnOk}
-use Rattle.instruction_set.specs.declared.letter.Letter.{Letter}
-use Rattle.divide_rules.specs.declared.ask.DivideAsk.{DivideAsk}
-use Rattle.mutations.specs.BirthRecord.{BirthRecord, child_of, origin_of, after_birth}
-use Rattle.virtual_cpu.specs.Divide.{child_part}
-use Rattle.organism.specs.SettingNumbers.{SettingNumbers}
-use Rattle.organism.specs.OrganismState.{OrganismState}
-use Rattle.organism.specs.UpdateLife.{clean_text, written_text, child_range, birth_record, after_child, child_letters}
+use Rattle.organism.proofs.Prelude.{Letter, DivideAsk, BirthRecord, child_of, origin_of, after_birth, child_part, SettingNumbers, OrganismState, clean_text, written_text, child_range, birth_record, after_child, child_letters}
 
 -- what follows for each value
 pub IfOk-then : {A : Type 0} {E : Type 0} (P Q : A → Type 0) (r : Result A E) → IfOk r P

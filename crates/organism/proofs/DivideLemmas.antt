@@ -1,13 +1,7 @@
 -- A viable divide of an organism.
 use Rattle.std.proofs.Common.{◌≡◌, ℕ, ◌≤◌, length, ap, arith}
+use Rattle.organism.proofs.Prelude.{DivideAsk, RuleNumbers, IsViable, Machine, IsMachine, end_of, divide_question, OrganismState, IsDivide}
 use Rattle.std.proofs.lemmas.Bool.Decides.{nat_tests}
-use Rattle.divide_rules.specs.declared.ask.DivideAsk.{DivideAsk}
-use Rattle.divide_rules.specs.Rules.{RuleNumbers}
-use Rattle.divide_rules.specs.Viability.{IsViable}
-use Rattle.virtual_cpu.specs.Machine.{Machine, IsMachine}
-use Rattle.virtual_cpu.specs.Divide.{end_of, divide_question}
-use Rattle.organism.specs.OrganismState.{OrganismState}
-use Rattle.organism.specs.Life.{IsDivide}
 
 -- the question of a divide has the place of READ
 pub question-read : (m : Machine) (ask : DivideAsk) → ask ≡ divide_question m

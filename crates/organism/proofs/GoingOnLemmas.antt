@@ -1,12 +1,8 @@
 -- A life that goes on by a step.
 use Rattle.std.proofs.Common.{◌∙◌, ◌-◌, ◌<◌, ◌^◌, ◌≡◌, ℕ, ◌+◌, ◌*◌, ◌≤◌, length, arith, ap, sym, subst}
-use Rattle.std.specs.List.{All}
-use Rattle.organism.specs.GoingOn.{LifeNow, GoesOn}
 use Rattle.std.specs.Prelude.{◌==◌}
+use Rattle.organism.proofs.Prelude.{All, LifeNow, GoesOn, SettingNumbers, OrganismState, is_old, age_of_death}
 use Rattle.std.proofs.lemmas.Grind.{common_steps}
-use Rattle.organism.specs.OrganismState.{OrganismState}
-use Rattle.organism.specs.UpdateLife.{is_old, age_of_death}
-use Rattle.organism.specs.SettingNumbers.{SettingNumbers}
 
 -- one step more
 pub goes_on-more : (settings : SettingNumbers) (steps : ℕ) (start now next : LifeNow)

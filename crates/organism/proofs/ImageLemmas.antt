@@ -1,8 +1,7 @@
 -- The machine of an organism's image.
 use Rattle.std.proofs.Common.{◌≡◌, ℕ}
+use Rattle.organism.proofs.Prelude.{image_of, machine_of_image, Machine, IsMachine}
 use Rattle.virtual_cpu.specs.declared.cpu_image.CpuImage.{CpuImage}
-use Rattle.virtual_cpu.specs.Image.{image_of, machine_of_image}
-use Rattle.virtual_cpu.specs.Machine.{Machine, IsMachine}
 
 -- it is the machine that the image was taken of
 pub machine-again : (again : (m : Machine) → IsMachine m

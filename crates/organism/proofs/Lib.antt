@@ -1,3 +1,4 @@
+pub mod Prelude
 pub mod BirthLemmas
 pub mod AnswerLemmas
 pub mod DivideLemmas

@@ -1,22 +1,10 @@
 -- What holds of an organism through its life.
 use Rattle.std.proofs.Common.{◌≡◌, refl, sym, ◌∙◌, add-one, ℕ, zero, suc, ◌+◌, ◌-◌, ◌<◌, ◌≤◌, ◌^◌, Option, Some, None, List, [], ◌∷◌, length, Result, Ok, Err, IsOkAnd, arith, length-append}
-use Rattle.std.specs.List.{All}
+use Rattle.organism.proofs.Prelude.{All, Letter, DivideAsk, RuleNumbers, AreRules, AreTextsOfChild, IsLengthWithin, child_of, letter_under_ip, Outcome, SettingNumbers, OrganismState, life_step, renewed, OnViable, LifeState, copy_of, after_copy_of, clean_text, written_text, child_range, birth_record, child_letters, newborn_of, after_outcome, after_step, life_state_after, dies_at, death_in, ended, life, IsSoundOrganism, IsBornOf, beginning, HasLived}
 use Rattle.std.proofs.lemmas.List.Elements.{All-nil, All-push}
-use Rattle.instruction_set.specs.declared.letter.Letter.{Letter}
-use Rattle.divide_rules.specs.declared.ask.DivideAsk.{DivideAsk}
-use Rattle.divide_rules.specs.Rules.{RuleNumbers, AreRules}
 use Rattle.mutations.specs.declared.stop.ApplyStop.{ApplyStop}
-use Rattle.mutations.specs.ChildTexts.{AreTextsOfChild, IsLengthWithin}
-use Rattle.mutations.specs.BirthRecord.{child_of}
-use Rattle.virtual_cpu.specs.Machine.{letter_under_ip}
 use Rattle.virtual_cpu.proofs.WordLemmas.{found-below}
-use Rattle.organism.specs.declared.outcome.Outcome.{Outcome}
 use Rattle.organism.specs.declared.outcome.Outcome.TheVariants as outcome
-use Rattle.organism.specs.SettingNumbers.{SettingNumbers}
-use Rattle.organism.specs.OrganismState.{OrganismState}
-use Rattle.organism.specs.Life.{life_step, renewed, OnViable}
-use Rattle.organism.specs.UpdateLife.{LifeState, copy_of, after_copy_of, clean_text, written_text, child_range, birth_record, child_letters, newborn_of, after_outcome, after_step, life_state_after, dies_at, death_in, ended, life}
-use Rattle.organism.specs.Lived.{IsSoundOrganism, IsBornOf, beginning, HasLived}
 use Rattle.organism.proofs.BirthLemmas.{child_part-length}
 use Rattle.organism.proofs.UpdateLifeLemmas.{state_after-zero, state_after-next}
 use Rattle.organism.proofs.SoundLemmas.{LowerLaws, IsAsked, Told, stepped, AsksWithin, within, divide_merit, born_anew}

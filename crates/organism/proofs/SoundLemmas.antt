@@ -1,34 +1,17 @@
 -- A step and a viable divide leave an organism sound.
 use Rattle.std.proofs.Common.{◌≡◌, refl, ◌∙◌, ℕ, ℤ, ◌+◌, ◌-◌, ◌*◌, ◌<◌, ◌≤◌, ◌^◌, Bool, Option, Some, None, List, length, IsOkAnd, arith}
 use Rattle.std.specs.Prelude.{FitsSigned, slice_index_or, ◌%◌}
+use Rattle.organism.proofs.Prelude.{Letter, IsGenome, DivideAsk, RuleNumbers, AreRules, verdict_of, child_length, IsViable, child_of, IsLengthWithin, OfDrawnRecords, StepAnswer, Output, Asks, Machine, IsMachine, fresh_machine, end_of, parent_part, divide_question, HoldsWords, step, AsksOf, KeepsLimits, Outcome, OrganismState, new_organism, next_input, older, newly_done, with_done, after_output, divide_outcome, after_did, life_step, renewed, OnViable, IsSoundOrganism}
 use Rattle.std.specs.Int.{w32, cast_signed}
 use borrow.Author.Differences.{fits_in, read_fits}
 use Rattle.std.proofs.Math.Nat.{mul-le-mul}
 use Rattle.std.proofs.lemmas.List.{length-take-le}
-use Rattle.instruction_set.specs.declared.letter.Letter.{Letter}
-use Rattle.genome.specs.Genome.{IsGenome}
 use Rattle.logic_tasks.specs.declared.task.Task.{Task}
 use Rattle.merit_slices.specs.Merit.{merit_of}
-use Rattle.divide_rules.specs.declared.ask.DivideAsk.{DivideAsk}
-use Rattle.divide_rules.specs.Rules.{RuleNumbers, AreRules}
 use Rattle.divide_rules.specs.declared.verdict.Verdict.{Verdict}
 use Rattle.divide_rules.specs.declared.verdict.Verdict.TheVariants as verdict
-use Rattle.divide_rules.specs.Viability.{verdict_of, child_length, IsViable}
-use Rattle.mutations.specs.BirthRecord.{child_of}
-use Rattle.mutations.specs.ChildTexts.{IsLengthWithin}
-use Rattle.mutations.specs.DrawnRecords.{OfDrawnRecords}
 use Rattle.mutations.specs.RecordForm.{HasRecordForm}
-use Rattle.virtual_cpu.specs.declared.step_answer.StepAnswer.{StepAnswer}
-use Rattle.virtual_cpu.specs.declared.step_answer.StepAnswer.TheVariants.{Output, Asks}
-use Rattle.virtual_cpu.specs.Machine.{Machine, IsMachine, fresh_machine}
-use Rattle.virtual_cpu.specs.Divide.{end_of, parent_part, divide_question}
-use Rattle.virtual_cpu.specs.Words.{HoldsWords}
-use Rattle.virtual_cpu.specs.Step.{step, AsksOf, KeepsLimits}
-use Rattle.organism.specs.declared.outcome.Outcome.{Outcome}
 use Rattle.organism.specs.declared.outcome.Outcome.TheVariants as outcome
-use Rattle.organism.specs.OrganismState.{OrganismState, new_organism}
-use Rattle.organism.specs.Life.{next_input, older, newly_done, with_done, after_output, divide_outcome, after_did, life_step, renewed, OnViable}
-use Rattle.organism.specs.Lived.{IsSoundOrganism}
 use Rattle.organism.proofs.DivideLemmas.{question-read, question-end, end-within}
 
 -- the laws of what an organism stands on

@@ -1,15 +1,6 @@
 -- One step within an update, by whether something follows from its letter.
 use Rattle.std.proofs.Common.{◌≡◌, ◌∙◌, ap, refl, sym, ℕ, Option}
-use Rattle.divide_rules.specs.Rules.{RuleNumbers}
-use Rattle.instruction_set.specs.declared.letter.Letter.{Letter}
-use Rattle.virtual_cpu.specs.Machine.{letter_under_ip, with_ip_marked}
-use Rattle.virtual_cpu.specs.Step.{step}
-use Rattle.organism.specs.Life.{after_letter, life_step}
-use Rattle.organism.specs.OrganismState.{OrganismState}
-use Rattle.organism.specs.SettingNumbers.{SettingNumbers}
-use Rattle.organism.specs.UpdateLife.{LifeState, after_effect, after_outcome, after_step, after_copy_of, copy_of}
-use Rattle.organism.specs.declared.outcome.Outcome.{Outcome}
-use Rattle.organism.specs.declared.outcome.Outcome.TheVariants.{Nothing}
+use Rattle.organism.proofs.Prelude.{RuleNumbers, Letter, letter_under_ip, with_ip_marked, step, after_letter, life_step, OrganismState, SettingNumbers, LifeState, after_effect, after_outcome, after_step, after_copy_of, copy_of, Outcome, Nothing}
 
 -- the effect of the letter under IP, once its place is marked, is one step of the life
 pub letter-step : (o marked : OrganismState) (letter : Letter) (copy : Option Letter)

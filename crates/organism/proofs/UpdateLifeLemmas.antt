@@ -1,9 +1,6 @@
 -- Lives, step by step.
 use Rattle.std.proofs.Common.{◌≡◌, ℕ, suc, ◌+◌, ◌-◌, ◌<◌, Bool, true, false, cond, Option, Some, arith, refl, sym, ◌∙◌, ap, add-one}
-use Rattle.std.specs.List.{find, range_with_len}
-use Rattle.organism.specs.SettingNumbers.{SettingNumbers}
-use Rattle.organism.specs.declared.ran.Ran.TheVariants.{Died}
-use Rattle.organism.specs.UpdateLife.{LifeState, life_state_after, after_step, is_old, dies_at, death_in, ended, life}
+use Rattle.organism.proofs.Prelude.{find, range_with_len, SettingNumbers, Died, LifeState, life_state_after, after_step, is_old, dies_at, death_in, ended, life}
 
 -- before any step
 pub state_after-zero : (settings : SettingNumbers) (words : ℕ → ℕ) (start : LifeState)

@@ -1,15 +1,11 @@
+pub mod Prelude
 pub mod OrganismState
-pub mod Image
-pub mod View
 pub mod Life
 pub mod SettingNumbers
-pub mod TraceRules
 pub mod TracedStep
 pub mod Newborns
-pub mod GoingOn
 pub mod UpdateLife
 pub mod Lived
-pub mod OrganismLife
 pub use Rattle.genome.specs.Genome
 pub use Rattle.virtual_cpu.specs.Machine
 pub use Rattle.virtual_cpu.specs.Step

@@ -1,22 +1,14 @@
 -- One step of a life, with a copy error or without (docs/WORLD.md, "The life of one update").
 use Rattle.std.specs.Prelude.{ℕ, ℤ, ◌+◌, ◌*◌, ◌-◌, ◌≤◌, ◌%◌, Option, Some, None, length, slice_index_or, if◌then◌else◌, option_and_then}
+use Rattle.organism.specs.Prelude.{Letter, Task, task_done, no_tasks, has_task, with_task, DivideAsk, RuleNumbers, Machine, fresh_machine, parent_part, step}
 use Rattle.std.specs.Int.{cast_signed, w32}
-use Rattle.instruction_set.specs.declared.letter.Letter.{Letter}
-use Rattle.logic_tasks.specs.declared.task.Task.{Task}
-use Rattle.logic_tasks.specs.LogicTasks.{task_done}
-use Rattle.logic_tasks.specs.TaskSet.{no_tasks, has_task, with_task}
 use Rattle.merit_slices.specs.Merit.{merit_of}
-use Rattle.divide_rules.specs.declared.ask.DivideAsk.{DivideAsk}
-use Rattle.divide_rules.specs.Rules.{RuleNumbers}
 use Rattle.divide_rules.specs.declared.verdict.Verdict.{Verdict}
 use Rattle.divide_rules.specs.declared.verdict.Verdict.TheVariants as verdict
 use Rattle.divide_rules.specs.Viability.{verdict_of}
 use Rattle.virtual_cpu.specs.declared.step_answer.StepAnswer.{StepAnswer}
 use Rattle.virtual_cpu.specs.declared.step_answer.StepAnswer.TheVariants.{Output, Asks}
-use Rattle.virtual_cpu.specs.Machine.{Machine, fresh_machine}
-use Rattle.virtual_cpu.specs.Divide.{parent_part}
 use Rattle.virtual_cpu.specs.Effects.{effect_of}
-use Rattle.virtual_cpu.specs.Step.{step}
 use Rattle.organism.specs.OrganismState.{OrganismState}
 use Rattle.organism.specs.declared.outcome.Outcome.{Outcome}
 use Rattle.organism.specs.declared.outcome.Outcome.TheVariants as outcome

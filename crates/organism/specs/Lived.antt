@@ -1,17 +1,13 @@
--- What holds of an organism and its newborns in a life (docs/WORLD.md, "The life of one update").
-use Rattle.std.specs.Prelude.{◌≡◌, ℕ, ◌+◌, ◌≤◌, ◌^◌, List, [], length, Ok}
-use Rattle.std.specs.List.{All}
-use Rattle.instruction_set.specs.declared.letter.Letter.{Letter}
-use Rattle.genome.specs.Genome.{IsGenome}
-use Rattle.divide_rules.specs.Rules.{RuleNumbers}
-use Rattle.mutations.specs.BirthRecord.{child_of}
+-- What the life of one update comes to, for whoever may stand in a cell, and what holds of an
+-- organism through it and of its newborns (docs/WORLD.md, "The life of one update").
+use Rattle.std.specs.Prelude.{◌≡◌, ℕ, ◌+◌, ◌≤◌, ◌^◌, List, [], length, Ok, Bool, false, Option, None, Some}
+use Rattle.organism.specs.Prelude.{All, Letter, IsGenome, RuleNumbers, child_of, IsMachine, HoldsWords}
 use Rattle.mutations.specs.RecordForm.{HasRecordForm}
-use Rattle.virtual_cpu.specs.Machine.{IsMachine}
-use Rattle.virtual_cpu.specs.Words.{HoldsWords}
 use Rattle.organism.specs.SettingNumbers.{SettingNumbers}
 use Rattle.organism.specs.OrganismState.{OrganismState, IsOrganism}
 use Rattle.organism.specs.Newborns.{NewbornValue}
-use Rattle.organism.specs.UpdateLife.{LifeState}
+use Rattle.organism.specs.UpdateLife.{LifeState, is_death, life}
+use Rattle.organism.specs.declared.ran.Ran.{Ran}
 
 -- an organism with a genome, a machine with numbers of 32 bits, and a merit from 1 to the greatest
 pub record IsSoundOrganism (o : OrganismState) : Type 0 where
@@ -45,3 +41,22 @@ pub record HasLived (settings : SettingNumbers) (start : OrganismState) (steps :
   pub age : now.organism.age ≤ start.age + steps
   pub few : length now.newborns ≤ steps
   pub newborns : All (IsBornOf start.genome settings.rules) now.newborns
+
+-- what a life comes to: the organism after the last step, whether it died of age, and its newborns
+pub record OrganismLife : Type 0 where
+  pub organism : Option OrganismState
+  pub died : Bool
+  pub newborns : List NewbornValue
+
+-- a life that ended like this
+abbrev pub ended_life : LifeState × Ran → OrganismLife
+ended_life ended = record {
+  organism = Some ended.0.organism;
+  died = is_death ended.1;
+  newborns = ended.0.newborns;
+}
+
+-- the life of an organism by these words, of at most so many steps; of nobody nothing comes
+unfoldable pub life_by : SettingNumbers → (ℕ → ℕ) → ℕ → Option OrganismState → OrganismLife
+life_by settings words steps None = record { organism = None; died = false; newborns = [] }
+life_by settings words steps (Some o) = ended_life (life settings words (beginning o) steps)

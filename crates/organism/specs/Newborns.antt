@@ -1,8 +1,6 @@
 -- The newborns of an update (docs/WORLD.md, "The life of one update").
 use Rattle.std.specs.Prelude.{ℕ, Bool, List}
-use Rattle.instruction_set.specs.declared.letter.Letter.{Letter}
-use Rattle.genome.specs.Genome.{letters}
-use Rattle.mutations.specs.BirthRecord.{BirthRecord, record_of}
+use Rattle.organism.specs.Prelude.{Letter, letters, BirthRecord, record_of}
 use Rattle.organism.specs.declared.newborn.Newborn.{Newborn}
 
 -- a newborn as lists and numbers

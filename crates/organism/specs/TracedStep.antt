@@ -1,20 +1,30 @@
--- One step of a trace, and what it tells (docs/FORMATS.md, "Trace lines").
-use Rattle.std.specs.Prelude.{ℕ, ℤ, List, [], ◌∷◌, None, length}
-use Rattle.instruction_set.specs.declared.letter.Letter.{Letter}
-use Rattle.logic_tasks.specs.declared.task.Task.{Task}
+-- One step of a trace, its rules of a divide, and what it tells (docs/FORMATS.md, "Trace lines";
+-- docs/MACHINE.md, "The rules of a divide").
+use Rattle.std.specs.Prelude.{ℕ, true, nat_le, if◌then◌else◌, ℤ, List, [], ◌∷◌, None, length}
+use Rattle.organism.specs.Prelude.{RuleNumbers, Letter, Task, letters, letter_under_ip, child_part}
 use Rattle.divide_rules.specs.declared.rule.Rule.{Rule}
-use Rattle.genome.specs.Genome.{letters}
-use Rattle.virtual_cpu.specs.Machine.{letter_under_ip}
-use Rattle.virtual_cpu.specs.Divide.{child_part}
 use Rattle.organism.specs.OrganismState.{OrganismState}
 pub use Rattle.organism.specs.OrganismState.{new_organism}
 use Rattle.organism.specs.Life.{life_step, divide_merit, renewed}
-use Rattle.organism.specs.TraceRules.{trace_rules}
 use Rattle.organism.specs.declared.outcome.Outcome.{Outcome}
 use Rattle.organism.specs.declared.outcome.Outcome.TheVariants as outcome
 use Rattle.organism.specs.declared.traced.Traced.{Traced}
 use Rattle.organism.specs.declared.traced.Remark.{Remark}
 use Rattle.organism.specs.declared.traced.Remark.TheVariants as remark
+
+-- the greatest length in the trace of a genome: 2048, or 8192 for a longer genome
+abbrev pub trace_greatest : ℕ → ℕ
+trace_greatest genome_length = if nat_le genome_length 2048 then 2048 else 8192
+
+-- the rules in the trace of a genome of this length
+unfoldable pub trace_rules : ℕ → RuleNumbers
+trace_rules genome_length = record {
+  least = 8;
+  greatest = trace_greatest genome_length;
+  executed_percent = 50;
+  copied_percent = 50;
+  need_alloc = true;
+}
 
 -- what a trace remarks: nothing, a task newly done, a divide refused or a viable divide
 pub data TracedRemark : Type 0 where

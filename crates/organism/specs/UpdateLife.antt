@@ -1,18 +1,7 @@
 -- The life of one update (docs/WORLD.md, "The life of one update").
-use Rattle.std.specs.Prelude.{◌^◌, ◌-◌, ℕ, zero, suc, ◌+◌, ◌*◌, Bool, true, false, ◌&&◌, ◌==◌, List}
-use Rattle.std.specs.Prelude.{[], ◌∷◌, ◌++◌, Option, None, Some, length, map, find}
-use Rattle.std.specs.Prelude.{if◌then◌else◌}
-use Rattle.std.specs.List.{range_with_len}
-use Rattle.instruction_set.specs.declared.letter.Letter.{Letter}
-use Rattle.instruction_set.specs.declared.letter.Letter.TheVariants.{HCopy}
-use Rattle.divide_rules.specs.declared.ask.DivideAsk.{DivideAsk}
-use Rattle.divide_rules.specs.Rules.{RuleNumbers}
-use Rattle.random_streams.specs.RandomStream.{Stream}
-use Rattle.mutations.specs.BirthRecord.{BirthRecord, child_of, origin_of, after_birth}
-use Rattle.mutations.specs.CopyError.{error_letter, after_error}
-use Rattle.mutations.specs.Rates.{LengthRange}
-use Rattle.virtual_cpu.specs.Divide.{child_part}
-use Rattle.virtual_cpu.specs.Machine.{letter_under_ip}
+use Rattle.std.specs.Prelude.{◌^◌, ◌-◌, ℕ, zero, suc, ◌+◌, ◌*◌, Bool, true, false, ◌&&◌, ◌==◌, List, [], ◌∷◌, ◌++◌, Option, None, Some, length, map, find, if◌then◌else◌}
+use Rattle.organism.specs.Prelude.{range_with_len, Letter, HCopy, DivideAsk, RuleNumbers, Stream, BirthRecord, child_of, origin_of, after_birth, LengthRange, child_part, letter_under_ip}
+use Rattle.mutations.specs.DivideErrors.{error_letter, after_error}
 use Rattle.organism.specs.declared.newborn.Newborn.{Newborn}
 use Rattle.organism.specs.declared.outcome.Outcome.{Outcome}
 use Rattle.organism.specs.declared.outcome.Outcome.TheVariants as outcome

@@ -1,7 +1,5 @@
 ghost use Rattle.std.specs.Prelude.{◌≡◌, ℕ, ◌<◌, ◌≤◌, ◌^◌, Bool, List, length};
-ghost use Rattle.instruction_set.specs.declared.letter.Letter.{Letter};
-ghost use Rattle.divide_rules.specs.Rules.{AreRules};
-ghost use Rattle.genome.specs.Genome.{IsGenome};
+ghost use Rattle.organism.specs.Prelude.{Letter, AreRules, IsGenome};
 ghost use Rattle.organism.specs.OrganismState.{OrganismState, new_organism};
 ghost use Rattle.organism.specs.SettingNumbers.{SettingNumbers};
 ghost use Rattle.organism.specs.UpdateLife.{life};

@@ -1,19 +1,9 @@
 // An organism: its genome, its machine, and what it has done since its birth or its last viable
 // divide.
-ghost use Rattle.std.specs.Prelude.{◌≡◌, ◌≢◌, ◌+◌, ◌*◌, ◌-◌, ◌<◌, ◌≤◌, ◌^◌, IfOk, OnErr, OnOk};
-ghost use Rattle.std.specs.Prelude.{length};
-ghost use Rattle.divide_rules.specs.Rules.{RuleNumbers, rule_numbers};
-ghost use Rattle.instruction_set.specs.declared.letter.Letter.TheVariants.{HDivide, Io};
-ghost use Rattle.genome.specs.Genome.{letters};
-ghost use Rattle.virtual_cpu.specs.Image.{image_of};
-ghost use Rattle.virtual_cpu.specs.Machine.{IsMachine, letter_under_ip, with_ip_marked};
-ghost use Rattle.virtual_cpu.specs.Step.{AsksOf};
-ghost use Rattle.virtual_cpu.specs.Divide.{divide_question};
-ghost use Rattle.organism.specs.OrganismState.{new_organism, IsOrganism};
-ghost use Rattle.organism.specs.Image.{organism_of_image};
-ghost use Rattle.organism.specs.Life.{newly_done, after_output, after_question, after_did};
-ghost use Rattle.organism.specs.Life.{after_letter, life_step, renewed, IsDivide, HasAllowedLength};
-ghost use Rattle.organism.specs.Life.{OnViable};
+ghost use Rattle.std.specs.Prelude.{◌≡◌, ◌≢◌, ◌+◌, ◌*◌, ◌-◌, ◌<◌, ◌≤◌, ◌^◌, IfOk, OnErr, OnOk, length};
+ghost use Rattle.organism.specs.Prelude.{RuleNumbers, rule_numbers, HDivide, Io, letters, image_of, IsMachine, letter_under_ip, with_ip_marked, AsksOf, divide_question};
+ghost use Rattle.organism.specs.OrganismState.{new_organism, IsOrganism, organism_of_image};
+ghost use Rattle.organism.specs.Life.{newly_done, after_output, after_question, after_did, after_letter, life_step, renewed, IsDivide, HasAllowedLength, OnViable};
 
 use crate::Image;
 use crate::outcome::Outcome;
@@ -48,7 +38,7 @@ impl Model for Organism {
 
     ghost Value = { OrganismState };
 
-    ghost use Rattle.organism.specs.View.{organism_view};
+    ghost use Rattle.organism.specs.OrganismState.{organism_view};
 
     ghost view = { organism_view };
 

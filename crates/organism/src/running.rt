@@ -1,12 +1,8 @@
 // The life of one update.
 ghost use Rattle.std.specs.Prelude.{◌==◌, ◌≡◌, ◌+◌, ◌*◌, ◌<◌, ◌≤◌, ◌^◌, [], IfOk, None, OnOk, length};
-ghost use Rattle.divide_rules.specs.Rules.{rule_numbers};
-ghost use Rattle.genome.specs.Genome.{letters};
-ghost use Rattle.mutations.specs.BirthRecord.{record_of};
-ghost use Rattle.random_streams.specs.RandomStream.{word_of};
+ghost use Rattle.organism.specs.Prelude.{rule_numbers, letters, record_of, word_of};
 ghost use Rattle.organism.specs.Life.{IsDivide, HasAllowedLength, OnViable};
-ghost use Rattle.organism.specs.GoingOn.{GoesOn, life_now};
-ghost use Rattle.organism.specs.SettingNumbers.{setting_numbers};
+ghost use Rattle.organism.specs.SettingNumbers.{GoesOn, life_now, setting_numbers};
 ghost use Rattle.organism.specs.UpdateLife.{life_state, copy_of, after_copy_of, birth_record, child_letters, after_child, after_effect, after_outcome, after_step, age_of_death, life};
 
 use crate::outcome::Outcome;

@@ -1,7 +1,7 @@
 // The rules of a divide in a trace.
 ghost use Rattle.std.specs.Prelude.{◌≡◌};
-ghost use Rattle.divide_rules.specs.Rules.{rule_numbers};
-ghost use Rattle.organism.specs.TraceRules.{trace_rules};
+ghost use Rattle.organism.specs.Prelude.{rule_numbers};
+ghost use Rattle.organism.specs.TracedStep.{trace_rules};
 
 use divide_rules::DivideRules;
 use genome::{GREATEST_LENGTH, LEAST_LENGTH};
@@ -13,7 +13,7 @@ pub const TRACE_LENGTH: u32 = 2048;
 pub const TRACE_PERCENT: u32 = 50;
 
 /// The rules in the trace of a genome of this length.
-#[tactic(auto, unfolding(crate::specs::TraceRules::trace_rules))]
+#[tactic(auto, unfolding(crate::specs::TracedStep::trace_rules))]
 pub(crate) fn trace_rules(genome_length: u32) -> DivideRules
     ensures { rule_numbers result ≡ trace_rules genome_length }
 {

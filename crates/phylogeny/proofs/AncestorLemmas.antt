@@ -1,9 +1,6 @@
 -- The ancestors of an id: itself, and those of its parent.
 use Rattle.std.proofs.Common.{◌≡◌, ℕ, zero, suc, ◌+◌, ◌-◌, ◌≤◌, List, [], ◌∷◌, length, Option, Some, None, unwrap_or, refl, sym, ap, ◌∙◌, arith}
-use Rattle.std.specs.List.{last_or}
-use Rattle.std.specs.Option.{option_map_or}
-use Rattle.lineage_log.specs.Ancestry.{ancestors_within}
-use Rattle.lineage_log.proofs.AncestorLemmas.{Older, line, line_is}
+use Rattle.phylogeny.proofs.Prelude.{last_or, option_map_or, ancestors_within, Older, line, line_is}
 
 -- the line begins with the id
 pub line_head : (parent_of : ℕ → Option ℕ) (n id : ℕ) → (others : List ℕ)

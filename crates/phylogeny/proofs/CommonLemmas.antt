@@ -1,18 +1,8 @@
 -- The latest common ancestor is an ancestor of all who live, and no greater id is.
 use Rattle.std.proofs.Common.{◌≡◌, ℕ, zero, suc, ◌+◌, ◌-◌, ◌<◌, ◌≤◌, Bool, true, false, eqb, List, [], ◌∷◌, Option, Some, None, length, get_or, max, unwrap_or, refl, sym, ap, subst, ◌∙◌, arith, inl, inr}
 use Rattle.std.specs.Prelude.{All, Contains, filter}
-use Rattle.std.specs.List.{fold, last_or, list_all, list_any, range_with_len, reduce}
-use Rattle.std.proofs.lemmas.Bool.{cases_Bool, eqb-true, or_cases, or_left, or_right}
-use Rattle.std.proofs.lemmas.Bool.Decides.{nat_tests}
-use Rattle.std.proofs.lemmas.Grind.{common_steps}
+use Rattle.phylogeny.proofs.Prelude.{fold, last_or, list_all, list_any, range_with_len, reduce, cases_Bool, eqb-true, or_cases, or_left, or_right, nat_tests, common_steps, AllPass-from_list_all, list_all-from_AllPass, ancestors_within, Dweller, Pedigree, descends_from, founding_ancestor_of, is_common, is_kept_id, most_recent_common_ancestor, TellsLatestCommon, AreBelow, IsPedigree, living_from, parent_at, Older, line}
 use Rattle.std.proofs.lemmas.List.Elements.{All-contains, Contains-get_or}
-use Rattle.std.proofs.lemmas.List.Sums.{AllPass-from_list_all, list_all-from_AllPass}
-use Rattle.lineage_log.specs.Ancestry.{ancestors_within}
-use Rattle.phylogeny.specs.Pedigree.{Dweller, Pedigree}
-use Rattle.phylogeny.specs.CommonAncestor.{descends_from, founding_ancestor_of, is_common, is_kept_id, most_recent_common_ancestor}
-use Rattle.phylogeny.specs.LatestCommon.{TellsLatestCommon}
-use Rattle.phylogeny.specs.Slots.{AreBelow, IsPedigree, living_from, parent_at}
-use Rattle.lineage_log.proofs.AncestorLemmas.{Older, line}
 use Rattle.phylogeny.proofs.AncestorLemmas.{child_root, founder_in, line_head}
 use Rattle.phylogeny.proofs.TokenLemmas.{is_among, none_above}
 use Rattle.phylogeny.proofs.WalkLemmas.{everybody, kept_from, kept_is_all, tree}

@@ -1,9 +1,7 @@
 -- Counts over two lists beside each other.
 use Rattle.std.proofs.Common.{◌≡◌, ℕ, ◌+◌, Bool, false, cond, eqb, ltb, List, [], ◌∷◌, length, refl, arith}
 use Rattle.std.specs.Prelude.{count_by}
-use Rattle.std.specs.List.{list_all, list_any}
-use Rattle.std.proofs.lemmas.Grind.{common_steps}
-use Rattle.std.proofs.lemmas.List.Sums.{sum_by-cons, count_by-le-length}
+use Rattle.phylogeny.proofs.Prelude.{list_all, list_any, common_steps, sum_by-cons, count_by-le-length}
 
 -- one, or none
 abbrev pub bit : Bool → ℕ

@@ -1,9 +1,7 @@
 -- Lists of ids, and how many of them pass a test.
 use Rattle.std.proofs.Common.{◌≡◌, ℕ, zero, suc, ◌+◌, ◌≤◌, Bool, true, false, cond, List, [], ◌∷◌, Some, length, max, refl, arith}
 use Rattle.std.specs.Prelude.{filter}
-use Rattle.std.proofs.lemmas.Grind.{common_steps}
-use Rattle.std.specs.List.{AllByRecursion, range_with_len, reduce}
-use Rattle.std.specs.Option.{option_or}
+use Rattle.phylogeny.proofs.Prelude.{common_steps, AllByRecursion, range_with_len, reduce, option_or}
 use Rattle.phylogeny.proofs.CountLemmas.{bit}
 
 -- no number of a range is below a bound that its first number is not below

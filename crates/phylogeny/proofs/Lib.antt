@@ -1,3 +1,4 @@
+pub mod Prelude
 pub mod ListLemmas
 pub mod AncestorLemmas
 pub mod CountLemmas

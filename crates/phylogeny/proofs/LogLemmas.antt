@@ -1,25 +1,13 @@
 -- The lines of a good log tell a pedigree: ids are counted, and parents came before.
 use Rattle.std.proofs.Common.{◌≡◌, ◌≢◌, ℕ, zero, suc, ◌+◌, ◌*◌, ◌<◌, ◌≤◌, Bool, cond, eqb, List, [], ◌∷◌, Option, Some, None, Ok, length, map, get_or, set, mul-le-mul, eq-eqb, ne_eqb, refl, sym, ap, ◌∙◌, arith}
 use Rattle.std.specs.Prelude.{◌==◌, flat_map, slice_get}
-use Rattle.std.specs.List.{range_with_len}
-use Rattle.std.specs.Option.{option_or}
-use Rattle.std.proofs.Math.ListN.{length-replicate, length-set}
-use Rattle.std.proofs.lemmas.Bool.{eqb-true}
-use Rattle.std.proofs.lemmas.Option.{slice_get_within}
-use Rattle.instruction_set.specs.declared.letter.Letter.{Letter}
-use Rattle.log_lines.specs.Line.{Line, Start, Death, Birth, Injected, Cleared, Rate, Count, End}
+use Rattle.phylogeny.proofs.Prelude.{range_with_len, option_or, length-replicate, length-set, eqb-true, slice_get_within, Letter, Line, Start, Death, Birth, Injected, Cleared, Rate, Count, End, LogPlace, Before, Within, After, opened, at_next_update, told_all, told_birth, told_cleared, told_count, told_death, told_end, told_injected, told_rate, told_start, told, Reader, holds, dweller, newcomer, parent_by_lines, parent_told, pedigree_of, Dweller, AreBelow, HaveLowerIds, IsPedigree, living_from, newcomer_parent, parent_at, parents_in, pedigree_with, standing_after, standing_on}
 use Rattle.lineage_log.specs.declared.stage.Stage.TheVariants.{Dying, Placing, Happening}
 use Rattle.lineage_log.specs.LogGrammar.{IsGoodLog}
-use Rattle.lineage_log.specs.Order.{LogPlace, Before, Within, After, opened, at_next_update, told_all, told_birth, told_cleared, told_count, told_death, told_end, told_injected, told_rate, told_start, told}
-use Rattle.lineage_log.specs.Reader.{Reader}
 use Rattle.lineage_log.specs.Replay.{Seen, replay_of, residents_from, seen_all, seen_on}
-use Rattle.lineage_log.specs.Slots.{holds}
 use Rattle.lineage_log.proofs.LogLaws.{went_on, whole_is}
 use Rattle.lineage_log.proofs.ReplayLemmas.{birth_told}
 use Rattle.lineage_log.proofs.StandingLemmas.{length_without}
-use Rattle.phylogeny.specs.LogPedigree.{dweller, newcomer, parent_by_lines, parent_told, pedigree_of}
-use Rattle.phylogeny.specs.Pedigree.{Dweller}
-use Rattle.phylogeny.specs.Slots.{AreBelow, HaveLowerIds, IsPedigree, living_from, newcomer_parent, parent_at, parents_in, pedigree_with, standing_after, standing_on}
 use Rattle.phylogeny.proofs.ListLemmas.{get_replicated}
 use Rattle.phylogeny.proofs.ReaderLemmas.{below_with, nobody, IsAt, IsPlaceAt, within_gives, tested, death_at, newcomer_at, next_id}
 

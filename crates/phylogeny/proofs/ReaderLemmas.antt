@@ -1,13 +1,8 @@
 -- What a reader of a log knows of its organisms, beside the pedigree so far.
 use Rattle.std.proofs.Common.{◌≡◌, ℕ, zero, suc, ◌+◌, ◌<◌, ◌≤◌, Bool, true, List, [], ◌∷◌, Option, Some, None, Ok, length, set, sym, ap, ◌∙◌, arith}
 use Rattle.std.specs.Prelude.{◌==◌, ◌&&◌, replicate}
-use Rattle.std.proofs.Math.ListN.{length-append}
-use Rattle.std.proofs.lemmas.Bool.{and_parts, eqb-true}
-use Rattle.instruction_set.specs.declared.letter.Letter.{Letter}
+use Rattle.phylogeny.proofs.Prelude.{length-append, and_parts, eqb-true, Letter, LogPlace, Before, Within, After, within_if, Reader, reader_with_death, reader_with_newcomer, AreBelow}
 use Rattle.lineage_log.specs.declared.stage.Stage.{Stage}
-use Rattle.lineage_log.specs.Order.{LogPlace, Before, Within, After, within_if}
-use Rattle.lineage_log.specs.Reader.{Reader, reader_with_death, reader_with_newcomer}
-use Rattle.phylogeny.specs.Slots.{AreBelow}
 
 -- ---- who stands in the cells
 

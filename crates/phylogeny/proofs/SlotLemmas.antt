@@ -1,12 +1,7 @@
 -- A walk over the cells, and over the lines of a log.
 use Rattle.std.proofs.Common.{◌≡◌, ℕ, suc, ◌+◌, ◌<◌, ◌≤◌, List, [], ◌∷◌, ◌++◌, Option, Some, None, length, drop, eqb, get_or, map, set, add-one, append_assoc, refl, sym, ap, ◌∙◌, arith}
 use Rattle.std.specs.Prelude.{count_by, is_some, slice_get}
-use Rattle.std.proofs.lemmas.Grind.{common_steps}
-use Rattle.std.proofs.lemmas.List.{drop_more}
-use Rattle.std.proofs.lemmas.List.Sums.{count_by-le-length}
-use Rattle.log_lines.specs.Line.{Line}
-use Rattle.phylogeny.specs.Pedigree.{Dweller}
-use Rattle.phylogeny.specs.Slots.{living_from, newcomer_parent, parents_in, standing_after, standing_on}
+use Rattle.phylogeny.proofs.Prelude.{common_steps, drop_more, count_by-le-length, Line, Dweller, living_from, newcomer_parent, parents_in, standing_after, standing_on}
 use Rattle.phylogeny.proofs.CountLemmas.{count_cons}
 use Rattle.phylogeny.proofs.ListLemmas.{drop_is}
 

@@ -1,11 +1,7 @@
 -- Where the count of one who lives stands on its way down the ids: at the first id of its line
 -- below a bound.
 use Rattle.std.proofs.Common.{◌≡◌, ℕ, zero, suc, ◌+◌, ◌<◌, ◌≤◌, Bool, false, cond, eqb, ltb, List, [], ◌∷◌, Option, Some, None, refl, ap, ◌∙◌, arith}
-use Rattle.std.specs.List.{list_any}
-use Rattle.std.specs.Option.{option_map_or}
-use Rattle.std.proofs.lemmas.Grind.{common_steps}
-use Rattle.lineage_log.specs.Ancestry.{ancestors_within}
-use Rattle.lineage_log.proofs.AncestorLemmas.{Older}
+use Rattle.phylogeny.proofs.Prelude.{list_any, option_map_or, common_steps, ancestors_within, Older}
 use Rattle.phylogeny.proofs.AncestorLemmas.{line_head}
 use Rattle.phylogeny.proofs.CountLemmas.{bit}
 

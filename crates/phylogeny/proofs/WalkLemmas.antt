@@ -1,16 +1,7 @@
 -- A walk down the ids: what is counted when it has come to a bound.
 use Rattle.std.proofs.Common.{◌≡◌, ℕ, zero, suc, ◌+◌, ◌-◌, ◌<◌, ◌≤◌, Bool, true, false, cond, eqb, ltb, List, [], ◌∷◌, Option, Some, None, length, get_or, set, max, add-one, refl, sym, ap, ◌∙◌, arith}
 use Rattle.std.specs.Prelude.{count_by, filter, nat_le}
-use Rattle.std.specs.List.{AllByRecursion, range_with_len, reduce}
-use Rattle.std.specs.Option.{option_map_or, option_or}
-use Rattle.std.proofs.Math.ListN.{length-set}
-use Rattle.std.proofs.lemmas.Bool.Decides.{nat_tests}
-use Rattle.std.proofs.lemmas.Grind.{common_steps}
-use Rattle.std.proofs.lemmas.List.Sums.{count_by-le-length, length-filter}
-use Rattle.phylogeny.specs.declared.shape.Shape.{Shape}
-use Rattle.phylogeny.specs.Pedigree.{Dweller, Pedigree, ancestors_of}
-use Rattle.phylogeny.specs.CommonAncestor.{branches_of, descends_from, is_branch, is_child, is_common, is_kept_id, kept_ids_of, most_recent_common_ancestor}
-use Rattle.phylogeny.specs.Slots.{AreBelow, HaveLowerIds, living_from, parent_at, pedigree_with}
+use Rattle.phylogeny.proofs.Prelude.{AllByRecursion, range_with_len, reduce, option_map_or, option_or, length-set, nat_tests, common_steps, count_by-le-length, length-filter, Shape, Dweller, Pedigree, ancestors_of, branches_of, descends_from, is_branch, is_child, is_common, is_kept_id, kept_ids_of, most_recent_common_ancestor, AreBelow, HaveLowerIds, living_from, parent_at, pedigree_with}
 use Rattle.phylogeny.proofs.AncestorLemmas.{line_head}
 use Rattle.phylogeny.proofs.CountLemmas.{all_counted, any_counted, bit, count_cons, count_handed, count_no, count_same}
 use Rattle.phylogeny.proofs.SlotLemmas.{dweller_at, here}

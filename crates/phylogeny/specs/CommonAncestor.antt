@@ -1,9 +1,25 @@
--- Depths, founders and the latest common ancestor (docs/WORLD.md, "Trees of descent").
-use Rattle.std.specs.Prelude.{ℕ, ◌-◌, ◌==◌, Bool, false, nat_le, List, length, filter, map, count_by, max, Option, None, unwrap_or}
+-- Who descends from whom: depths, founders and the latest common ancestor (docs/WORLD.md, "Trees of
+-- descent").
+use Rattle.std.specs.Prelude.{ℕ, List, Option, ◌-◌, ◌==◌, Bool, false, nat_le, length, filter, map, count_by, max, None, unwrap_or, ◌≡◌, ◌≢◌, ◌⊎◌, ◌≤◌, [], All, Contains, IsTrue, Some}
+use Rattle.lineage_log.specs.Ancestry.{ancestors_within}
 use Rattle.std.specs.List.{last_or, list_all, list_any, reduce}
 use Rattle.std.specs.Option.{option_map_or}
 use Rattle.phylogeny.specs.declared.depths.Depth.{Depth}
-use Rattle.phylogeny.specs.Pedigree.{Dweller, Pedigree, ancestors_of}
+
+-- an organism that lives, and its cell
+pub record Dweller : Type 0 where
+  pub cell : ℕ
+  pub id : ℕ
+
+-- the parent of each id but a founder's, the ids of all ever, rising, and who lives, by cells
+pub record Pedigree : Type 0 where
+  pub parent_of : ℕ → Option ℕ
+  pub everyone : List ℕ
+  pub living : List Dweller
+
+-- an id, its parent, and so on to a founder: parents have lower ids, so at most `id` generations
+abbrev pub ancestors_of : Pedigree → ℕ → List ℕ
+ancestors_of p id = ancestors_within id p.parent_of id
 
 -- the founder of an id: the last of its ancestors, of which there is at least one
 abbrev pub founding_ancestor_of : Pedigree → ℕ → ℕ
@@ -53,3 +69,12 @@ is_branch p id = nat_le 2 (count_by (is_child p id) (kept_ids_of p))
 -- the kept ids that have at least two children that are kept
 unfoldable pub branches_of : Pedigree → List ℕ
 branches_of p = filter (is_branch p) (kept_ids_of p)
+
+-- the greatest common id, with the founder of all; none where nobody lives, or founders differ
+abbrev pub TellsLatestCommon : Pedigree → Option ℕ → Type 0
+TellsLatestCommon p (Some id) =
+    IsTrue (is_common p id) × ((other : ℕ) → IsTrue (is_common p other) → other ≤ id)
+    × All (λ who. founding_ancestor_of p who.id ≡ founding_ancestor_of p id) p.living
+TellsLatestCommon p None = (p.living ≡ [])
+    ⊎ ((one : Dweller) × (other : Dweller) × Contains p.living one × Contains p.living other
+    × (founding_ancestor_of p one.id ≢ founding_ancestor_of p other.id))

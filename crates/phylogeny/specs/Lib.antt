@@ -1,9 +1,6 @@
 pub use Rattle.log_lines.specs.Line
 pub use Rattle.lineage_log.specs.Ancestry
 pub use Rattle.lineage_log.specs.Replay
-pub mod Pedigree
 pub mod CommonAncestor
-pub mod LatestCommon
-pub mod LogPedigree
-pub mod Slots
 pub mod TreeText
+pub mod Slots

@@ -2,7 +2,7 @@
 use Rattle.std.specs.Prelude.{◌≡◌, ℕ, suc, ◌<◌, ◌≤◌, ◌*◌, List, [], ◌∷◌, length, replicate, flat_map, Option, Some, None, slice_index_or, slice_set}
 use Rattle.std.specs.List.{range_with_len}
 use Rattle.log_lines.specs.Line.{Line, Start, Death, Birth, Injected, Cleared, Rate, Count, End}
-use Rattle.phylogeny.specs.Pedigree.{Dweller, Pedigree}
+use Rattle.phylogeny.specs.CommonAncestor.{Dweller, Pedigree}
 
 -- the parent of an id
 abbrev pub parent_at : List (Option ℕ) → ℕ → Option ℕ

@@ -1,8 +1,7 @@
 // How far the living are from their founders.
 ghost use Rattle.std.specs.Prelude.{◌≡◌, ℕ, ◌<◌, [], Some, IfOk, length, slice_get, ◌-◌};
-ghost use Rattle.phylogeny.specs.CommonAncestor.{depths_of, founding_ancestor_of};
+ghost use Rattle.phylogeny.specs.CommonAncestor.{depths_of, founding_ancestor_of, ancestors_of};
 ghost use Rattle.phylogeny.specs.Slots.{HaveLowerIds, IsPedigree, pedigree_with};
-ghost use Rattle.phylogeny.specs.Pedigree.{ancestors_of};
 
 use avida_port::{Items, Memory};
 use std::alloc::Global;

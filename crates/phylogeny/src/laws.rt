@@ -1,9 +1,8 @@
 ghost use Rattle.std.specs.Prelude.{List};
 ghost use Rattle.log_lines.specs.Line.{Line};
 ghost use Rattle.lineage_log.specs.LogGrammar.{IsGoodLog};
-ghost use Rattle.phylogeny.specs.CommonAncestor.{most_recent_common_ancestor};
-ghost use Rattle.phylogeny.specs.LatestCommon.{TellsLatestCommon};
-ghost use Rattle.phylogeny.specs.LogPedigree.{pedigree_of};
+ghost use Rattle.phylogeny.specs.CommonAncestor.{most_recent_common_ancestor, TellsLatestCommon};
+ghost use Rattle.phylogeny.specs.TreeText.{pedigree_of};
 
 /// In a good log the latest common ancestor is the greatest id in the lines of descent of all
 /// living organisms. There is none exactly if no organism lives, or if two of the living have

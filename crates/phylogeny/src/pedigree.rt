@@ -1,7 +1,7 @@
 // The parents of a log's organisms, and who lives at its end.
 ghost use Rattle.std.specs.Prelude.{◌≡◌, ◌++◌, [], IfOk, OnOk, slice_set};
 ghost use Rattle.log_lines.specs.Line.{line_values};
-ghost use Rattle.phylogeny.specs.LogPedigree.{pedigree_of};
+ghost use Rattle.phylogeny.specs.TreeText.{pedigree_of};
 ghost use Rattle.phylogeny.specs.Slots.{IsPedigree, newcomer_parent, parents_in, pedigree_with, standing_after, standing_on};
 
 use avida_port::Memory;

@@ -1,7 +1,7 @@
 // The phylogeny of a log.
 ghost use Rattle.std.specs.Prelude.{◌≡◌, IfOk, length};
 ghost use Rattle.phylogeny.specs.CommonAncestor.{branches_of, depths_of, kept_ids_of, most_recent_common_ancestor};
-ghost use Rattle.phylogeny.specs.LogPedigree.{pedigree_of};
+ghost use Rattle.phylogeny.specs.TreeText.{pedigree_of};
 
 use crate::depths::depths_in;
 use crate::pedigree::read_pedigree;

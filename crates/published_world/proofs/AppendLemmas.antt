@@ -4,8 +4,7 @@ use Rattle.std.proofs.lemmas.List.Sums.{fold-append}
 use Rattle.crossbeam_utils.specs.Register.{TurnsAt}
 use Rattle.published_world.specs.declared.shown.Shown.{Shown}
 use Rattle.published_world.specs.declared.view.View.{View}
-use Rattle.published_world.specs.Shown.{count_and_picture}
-use Rattle.published_world.specs.PublicationHistory.{IsPublication, MayFollow}
+use Rattle.published_world.specs.PublicationHistory.{count_and_picture, IsPublication, MayFollow}
 use Rattle.published_world.specs.Rule.{Appends, Keeps, MayWrite}
 use Rattle.published_world.proofs.PublicationLemmas.{publication_of_more}
 use Rattle.published_world.proofs.RuleLemmas.{appends}

@@ -3,8 +3,7 @@ use Rattle.std.proofs.Common.{◌≡◌, ℕ, ◌<◌, ◌≤◌, List, length, 
 use Rattle.std.proofs.lemmas.List.{length-take, take_all}
 use mathlib.Core.List.{IsPrefix}
 use Rattle.published_world.specs.declared.shown.Shown.{Shown}
-use Rattle.published_world.specs.Shown.{count_and_picture}
-use Rattle.published_world.specs.PublicationHistory.{IsPublication, last_of}
+use Rattle.published_world.specs.PublicationHistory.{count_and_picture, IsPublication, last_of}
 use Rattle.published_world.specs.Rule.{IsSeen, IsWholeSeen, Shows}
 use Rattle.published_world.proofs.PrefixLemmas.{prefix_trans, prefix_length, take_is_prefix, take_of_longer}
 use Rattle.published_world.proofs.PublicationLemmas.{some_are}

@@ -1,3 +1,2 @@
 pub mod PublicationHistory
 pub mod Rule
-pub mod Shown

@@ -1,5 +1,6 @@
 -- What was published, and what was seen of it (docs/ARCHITECTURE.md, "Pictures and observers").
 use Rattle.std.specs.Prelude.{◌≡◌, ◌+◌, ◌-◌, ℕ, List, Option, Some, length, slice_get, nat_lt, if◌then◌else◌}
+use Rattle.published_world.specs.declared.shown.Shown.{Shown}
 
 module _ {P : Type 0} where
   -- the first picture
@@ -28,3 +29,7 @@ module _ {P O : Type 0} (number : P → ℕ) (of : P → O) where
   pub record MayFollow (pictures : List P) (next : P) : Type 0 where
     pub rises : (last : P) → last_of pictures ≡ Some last → number next ≡ number last + 1
     pub same : (first : P) → first_of pictures ≡ Some first → of next ≡ of first
+
+-- the number of pictures, and the last one
+abbrev pub count_and_picture : {P : Type 0} → Shown P → ℕ × P
+count_and_picture shown = (shown.count, shown.picture.value)

@@ -1,6 +1,6 @@
 // What readers take.
 ghost use Rattle.std.specs.Prelude.{◌≡◌, IfOk};
-ghost use Rattle.published_world.specs.Shown.{count_and_picture};
+ghost use Rattle.published_world.specs.PublicationHistory.{count_and_picture};
 
 use left_right::Absorb;
 use std::alloc::AllocError;
@@ -27,7 +27,7 @@ impl<P: Drop> Shown<P> {
 
 /// What was shown last takes the place of what was shown before.
 impl<P: Drop> Absorb<Shown<P>> for Shown<P> {
-    ghost use Rattle.published_world.specs.Shown.{count_and_picture};
+    ghost use Rattle.published_world.specs.PublicationHistory.{count_and_picture};
 
     type State = (u64, P);
 

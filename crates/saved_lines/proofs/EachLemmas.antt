@@ -1,10 +1,7 @@
 -- Items read one by one.
 use Rattle.std.proofs.Common.{◌≡◌, ℕ, ◌<◌, Bool, true, List, length, Some, refl, sym, arith}
 use Rattle.std.specs.Prelude.{nat_lt}
-use Rattle.std.proofs.lemmas.Bool.Decides.{nat_tests}
-use Rattle.log_lines.specs.Fields.{each}
-use Rattle.log_lines.proofs.ListLaws.{each_length}
-use Rattle.saved_lines.specs.SavedFields.{mark_of, marks}
+use Rattle.saved_lines.proofs.Prelude.{nat_tests, each, each_length, mark_of, marks}
 
 -- marks of a word that is not empty
 pub marks_made : (word : List ℕ) (places : List Bool) → Some places ≡ each mark_of word

@@ -1,22 +1,10 @@
 -- The values of a line are in their ranges exactly where its fields fit its row.
 use Rattle.std.proofs.Common.{◌≡◌, ℕ, zero, suc, ◌<◌, ◌≤◌, ◌%◌, ◌^◌, Bool, true, false, List, [], ◌∷◌, length, subst, arith}
-use Rattle.std.specs.List.{AllByRecursion}
 use Rattle.std.specs.Prelude.{nat_le, slice_index_or}
+use Rattle.saved_lines.proofs.Prelude.{AllByRecursion, and_from, and_parts, le-leb, leb-true, Letter, HasTopBytes, low_of, bits_of_tasks, number_of-small, CpuImage, IsHead, IsMachineLine, IsOrganismLine, are_ordered, machine_at, AreWithin, MachineFields, head_ranges, machine_row, organism_row, flag_number, head_numbers, organism_numbers, machine_numbers, HeadValues, OrganismValues}
 use Rattle.std.proofs.Math.Nat.{mod-lt}
-use Rattle.std.proofs.lemmas.Bool.{and_from, and_parts, le-leb, leb-true}
-use Rattle.instruction_set.specs.declared.letter.Letter.{Letter}
 use Rattle.genome.specs.Genome.{IsGenome}
 use Rattle.mutations.specs.Change.{is_genome_length}
-use Rattle.logic_tasks.specs.Inputs.{HasTopBytes, low_of}
-use Rattle.logic_tasks.specs.TaskBits.{bits_of_tasks}
-use Rattle.logic_tasks.specs.TaskBitsLaws.{number_of-small}
-use Rattle.virtual_cpu.specs.declared.cpu_image.CpuImage.{CpuImage}
-use Rattle.saved_lines.specs.SavedForms.{IsHead, IsMachineLine, IsOrganismLine}
-use Rattle.saved_lines.specs.SavedReading.{are_ordered, machine_at}
-use Rattle.saved_lines.specs.SavedRows.{AreWithin}
-use Rattle.saved_lines.specs.SavedTables.{MachineFields, head_ranges, machine_row, organism_row}
-use Rattle.saved_lines.specs.SavedText.{flag_number, head_numbers, organism_numbers, machine_numbers}
-use Rattle.saved_lines.specs.SavedValues.{HeadValues, OrganismValues}
 
 -- 0 or 1
 flag_fits : (flag : Bool) → flag_number flag ≤ 1

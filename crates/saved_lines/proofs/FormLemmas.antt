@@ -1,10 +1,7 @@
 -- The mark of a line.
 use Rattle.std.proofs.Common.{◌≡◌, ℕ, false, List, [], ◌∷◌, length, get_or, None, refl, ap, arith}
 use Rattle.std.specs.Prelude.{◌==◌}
-use Rattle.std.specs.Str.{bytes_eq}
-use Rattle.std.specs.List.{slice_split}
-use Rattle.log_lines.proofs.FieldLaws.{not_equal}
-use Rattle.saved_lines.specs.SavedReading.{read_form, saved_line_of}
+use Rattle.saved_lines.proofs.Prelude.{bytes_eq, slice_split, not_equal, read_form, saved_line_of}
 
 -- a mark of another length
 no_mark : (mark : List ℕ) (b : ℕ) → (length mark ≡ 1 → ⊥) → bytes_eq mark (b ∷ []) ≡ false

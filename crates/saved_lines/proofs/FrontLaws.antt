@@ -1,16 +1,8 @@
 -- Words in front of a row: what is written is read again, and what is read was written so.
 use Rattle.std.proofs.Common.{◌≡◌, ℕ, zero, suc, ◌<◌, ◌≤◌, ◌^◌, List, [], ◌∷◌, ◌++◌, map, length, Option, Some, None, refl, sym, ap, subst, ◌∙◌, arith, decimal, append-nil}
 use Rattle.std.specs.Prelude.{option_and_then}
-use Rattle.std.specs.List.{AllByRecursion}
-use Rattle.std.proofs.lemmas.Option.{some_pair_parts}
-use Rattle.numerals.specs.Numeral.{number_of}
-use Rattle.numerals.specs.Spelling.{OneNumber}
-use Rattle.log_lines.specs.Fields.{Field}
-use Rattle.log_lines.specs.Rows.{Row}
-use Rattle.log_lines.proofs.FieldLaws.{Above, IsField, IsRow, number_law, above_lower, some_map, some_then}
-use Rattle.saved_lines.specs.declared.range.Range.{Range}
+use Rattle.saved_lines.proofs.Prelude.{AllByRecursion, some_pair_parts, number_of, OneNumber, Field, Row, Above, IsField, IsRow, number_law, above_lower, some_map, some_then, Range, Front, read_several, several, read_within, AreWithin, within, if_last, whole, ◌◁◌}
 use Rattle.saved_lines.proofs.RangeLemmas.{read_are_within}
-use Rattle.saved_lines.specs.SavedRows.{Front, read_several, several, read_within, AreWithin, within, if_last, whole, ◌◁◌}
 
 -- what is written is read again, and what is read was written so, of bytes above c
 pub record IsFront {A : Type 0} (c : ℕ) (f : Front A) : Type 0 where

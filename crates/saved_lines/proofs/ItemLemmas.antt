@@ -1,10 +1,7 @@
 -- Items that are read word by word.
 use Rattle.std.proofs.Common.{◌≡◌, ℕ, suc, ◌+◌, ◌-◌, ◌<◌, ◌≤◌, List, [], ◌∷◌, ◌++◌, length, get_or, take, drop, Option, Some, None, refl, sym, ap, ◌∙◌, arith, append_assoc, append-nil, drop-cons, add-one}
 use Rattle.std.specs.Prelude.{option_map, option_and_then}
-use Rattle.std.proofs.lemmas.List.{drop_all, take_all}
-use Rattle.saved_lines.specs.declared.range.Range.{Range}
-use Rattle.saved_lines.specs.SavedReading.{saved_head_line}
-use Rattle.saved_lines.specs.SavedRows.{AreWithin, if_last, with_item, read_several, read_within}
+use Rattle.saved_lines.proofs.Prelude.{drop_all, take_all, Range, saved_head_line, AreWithin, if_last, with_item, read_several, read_within}
 use Rattle.saved_lines.proofs.RangeLemmas.{read_are_within}
 
 -- what is read behind some items

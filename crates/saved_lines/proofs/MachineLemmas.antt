@@ -1,14 +1,7 @@
 -- A machine's line that is read field by field.
 use Rattle.std.proofs.Common.{◌≡◌, ℕ, ℤ, Bool, List, Option, Some, None, ap, ◌∙◌}
 use Rattle.std.specs.Prelude.{option_map}
-use Rattle.instruction_set.specs.declared.letter.Letter.{Letter}
-use Rattle.log_lines.specs.Fields.{Field}
-use Rattle.log_lines.specs.Rows.{Row, ◌◂◌}
-use Rattle.log_lines.specs.Words.{read_first}
-use Rattle.log_lines.proofs.TimesLemmas.{first_parts}
-use Rattle.saved_lines.specs.SavedFields.{signed, nops}
-use Rattle.saved_lines.specs.SavedTables.{machine_ranges, machine_row, texts_row}
-use Rattle.saved_lines.specs.SavedRows.{Front, read_several, read_within, several, within, ◌◁◌}
+use Rattle.saved_lines.proofs.Prelude.{Letter, Field, Row, ◌◂◌, read_first, first_parts, signed, nops, machine_ranges, machine_row, texts_row, Front, read_several, read_within, several, within, ◌◁◌}
 
 -- the words in front are read
 front_on : {A B : Type 0} (f : Front A) (r : Row B) (words left : List (List ℕ)) (a : A)

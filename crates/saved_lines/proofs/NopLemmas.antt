@@ -1,16 +1,7 @@
 -- Nops that are read letter by letter.
 use Rattle.std.proofs.Common.{◌≡◌, ℕ, ◌+◌, ◌-◌, ◌<◌, ◌⊎◌, true, false, List, [], ◌∷◌, ◌++◌, length, get_or, drop, Option, Some, None, refl, sym, ap, ◌∙◌, arith, length-append, drop-cons, add-one}
 use Rattle.std.specs.Prelude.{◌&&◌, nat_lt, nat_le, option_and_then, option_map}
-use Rattle.std.specs.List.{list_all}
-use Rattle.std.proofs.lemmas.Bool.{and_parts}
-use Rattle.std.proofs.lemmas.Bool.Decides.{nat_tests}
-use Rattle.instruction_set.specs.declared.letter.Letter.{Letter}
-use Rattle.instruction_set.specs.Letter.{letter_of_byte}
-use Rattle.label_search.specs.Template.{is_nop, nops_read}
-use Rattle.log_lines.specs.Fields.{each, given}
-use Rattle.log_lines.proofs.ListLaws.{each_length}
-use Rattle.log_lines.proofs.TimesLemmas.{map_more}
-use Rattle.saved_lines.specs.SavedFields.{are_nops, some_nops}
+use Rattle.saved_lines.proofs.Prelude.{list_all, and_parts, nat_tests, Letter, letter_of_byte, is_nop, nops_read, each, given, each_length, map_more, are_nops, some_nops}
 
 -- from one to ten nops, or none
 abbrev if_nops : Option (List Letter) → Option (List Letter)

@@ -1,13 +1,8 @@
 -- Numbers that were read, each within its range.
 use Rattle.std.proofs.Common.{◌≡◌, ℕ, zero, suc, ◌<◌, ◌≤◌, List, [], ◌∷◌, length, get_or, Some, refl, sym, ap, subst, arith}
 use Rattle.std.specs.Prelude.{◌&&◌, nat_le}
+use Rattle.saved_lines.proofs.Prelude.{and_parts, leb-true, cond_some, some_pair_parts, is_numeral, number_of, some_map, some_then, Range, read_within, AreWithin}
 use Rattle.std.specs.Str.Parse.{digits_value}
-use Rattle.std.proofs.lemmas.Bool.{and_parts, leb-true}
-use Rattle.std.proofs.lemmas.Option.{cond_some, some_pair_parts}
-use Rattle.numerals.specs.Numeral.{is_numeral, number_of}
-use Rattle.log_lines.proofs.FieldLaws.{some_map, some_then}
-use Rattle.saved_lines.specs.declared.range.Range.{Range}
-use Rattle.saved_lines.specs.SavedRows.{read_within, AreWithin}
 
 -- a number that was read is within its range
 pub number_within : (least greatest n : ℕ) (word : List ℕ)

@@ -1,29 +1,10 @@
 -- The fields of a saved world: what is written is read again, and what is read was written so.
 use Rattle.std.proofs.Common.{◌≡◌, ℕ, ℤ, pos, suc, ◌-◌, ◌<◌, ◌≤◌, Bool, true, false, List, [], ◌∷◌, map, length, Some, None, refl, sym, ap, subst, ◌∙◌, arith, inl, inr, decimal, get_or}
-use Rattle.std.specs.Prelude.{negsuc, nat_lt, ◌==◌, FitsSigned}
-use Rattle.std.specs.Int.{w32}
-use Rattle.std.specs.Fmt.{signed_decimal}
-use Rattle.std.proofs.lemmas.Bool.{cases_Bool, eqb-true}
-use Rattle.std.proofs.lemmas.Bool.Decides.{nat_tests}
-use Rattle.std.proofs.lemmas.Option.{cond_some}
-use Rattle.numerals.specs.Numeral.{number_of}
-use Rattle.numerals.specs.Spelling.{OneNumber}
-use Rattle.log_lines.specs.Fields.{each, given}
-use Rattle.log_lines.proofs.FieldLaws.{Above, IsField, number_law, some_map, some_then}
-use Rattle.std.specs.Prelude.{◌&&◌, nat_le}
-use Rattle.std.specs.Str.{bytes_eq}
-use Rattle.std.specs.List.{list_all}
-use Rattle.std.proofs.lemmas.Bool.{and_parts}
+use Rattle.std.specs.Prelude.{negsuc, nat_lt, ◌==◌, FitsSigned, ◌&&◌, nat_le}
+use Rattle.saved_lines.proofs.Prelude.{w32, signed_decimal, cases_Bool, eqb-true, and_parts, nat_tests, cond_some, number_of, OneNumber, each, given, Above, IsField, number_law, some_map, some_then, above_letters, each_takes, letters_again, letters_taken, not_equal, same_bytes, bytes_eq, list_all, Letter, byte_of, letter_of_byte, IsTemplate, is_nop, below_zero, read_signed, signed, mark_of, marks, are_nops, some_nops, read_nops, nops, digit_of, nops_text}
 use Rattle.std.proofs.lemmas.List.Elements.{All-nil}
 use Rattle.std.proofs.lemmas.List.Sums.{AllPass-from_list_all, list_all-from_AllPass}
-use Rattle.instruction_set.specs.declared.letter.Letter.{Letter}
-use Rattle.instruction_set.specs.Letter.{byte_of, letter_of_byte}
-use Rattle.label_search.specs.Template.{IsTemplate, is_nop}
-use Rattle.log_lines.specs.Fields.{given}
 use Rattle.log_lines.proofs.LetterLemmas.{letter_of_byte-byte_of}
-use Rattle.log_lines.proofs.FieldLaws.{above_letters, each_takes, letters_again, letters_taken, not_equal, same_bytes}
-use Rattle.saved_lines.specs.SavedFields.{below_zero, read_signed, signed, mark_of, marks, are_nops, some_nops, read_nops, nops}
-use Rattle.saved_lines.specs.SavedText.{digit_of, nops_text}
 use Rattle.saved_lines.proofs.TextLemmas.{nops_text-some}
 
 -- the field writes this word for the number

@@ -1,29 +1,12 @@
 -- A line that is written is read again, and a line that is read was written so.
 use Rattle.std.proofs.Common.{◌≡◌, ℕ, drop, inl, inr, true, List, [], ◌∷◌, ◌++◌, Some, None, refl, sym, ap, subst, ◌∙◌, arith}
 use Rattle.std.specs.Prelude.{option_and_then, option_map}
-use Rattle.std.specs.Str.{bytes_eq}
-use Rattle.std.specs.List.{join_with_byte}
+use Rattle.saved_lines.proofs.Prelude.{bytes_eq, join_with_byte, cond_some, OneNumber, Letter, length-tasks_of, genome_field, large, Row, last, words_text, form_text, Above, IsField, IsRow, chosen, last_law, letters_law, row_law, some_map, some_then, Range, signed, marks, HasSavedForm, are_ordered, head_of, saved_head_line, organism_at, organism_of, machine_of, saved_number_at, read_form, read_saved_words, saved_line_of, MachineFields, head_ranges, head_row, organism_ranges, organism_row, machine_ranges, machine_row, saved_row_text, SavedLine, Head, Organism, Machine, Count, head_numbers, organism_numbers, AreWithin, within}
 use Rattle.std.proofs.lemmas.List.Splits.{join_with_byte-slice_split}
-use Rattle.std.proofs.lemmas.Option.{cond_some}
-use Rattle.numerals.specs.Spelling.{OneNumber}
 pub use Rattle.numerals.proofs.SpellingLemmas.{numbers_spell}
-use Rattle.instruction_set.specs.declared.letter.Letter.{Letter}
 use Rattle.logic_tasks.proofs.InputsLaws.{inputs_of-top}
-use Rattle.logic_tasks.specs.TaskBitsLaws.{length-tasks_of}
-use Rattle.log_lines.specs.Fields.{genome_field}
-use Rattle.log_lines.specs.Kinds.{large}
-use Rattle.log_lines.specs.Rows.{Row, last}
-use Rattle.log_lines.specs.LineText.{words_text, form_text}
-use Rattle.log_lines.proofs.FieldLaws.{Above, IsField, IsRow, chosen, last_law, letters_law, row_law, some_map, some_then}
 use Rattle.log_lines.proofs.KindLaws.{low, large_law}
 use Rattle.log_lines.proofs.RowLaws.{words_in, joined_words, row_words, row_plain, row_takes}
-use Rattle.saved_lines.specs.declared.range.Range.{Range}
-use Rattle.saved_lines.specs.SavedFields.{signed, marks}
-use Rattle.saved_lines.specs.SavedForms.{HasSavedForm}
-use Rattle.saved_lines.specs.SavedReading.{are_ordered, head_of, saved_head_line, organism_at, organism_of, machine_of, saved_number_at, read_form, read_saved_words, saved_line_of}
-use Rattle.saved_lines.specs.SavedTables.{MachineFields, head_ranges, head_row, organism_ranges, organism_row, machine_ranges, machine_row}
-use Rattle.saved_lines.specs.SavedText.{saved_row_text, SavedLine, Head, Organism, Machine, Count, head_numbers, organism_numbers}
-use Rattle.saved_lines.specs.SavedRows.{AreWithin, within}
 use Rattle.saved_lines.proofs.FrontLaws.{AreSmall, IsFront, front_law, front_lower, several_law, whole_law, within_law}
 use Rattle.saved_lines.proofs.SavedFieldLaws.{signed_law, marks_law, nops_law}
 use Rattle.saved_lines.proofs.FitsLemmas.{head_fits, head_is, head_ordered, organism_fits, organism_is, machine_fits, machine_is, machine_fields}

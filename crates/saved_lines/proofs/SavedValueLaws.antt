@@ -1,18 +1,7 @@
 -- The values of a line and its fields give one another.
 use Rattle.std.proofs.Common.{◌≡◌, ℕ, zero, suc, ◌+◌, ◌*◌, ◌/◌, ◌%◌, ◌^◌, ◌<◌, ◌≤◌, Bool, true, false, List, [], ◌∷◌, length, get_or, drop, refl, sym, ap, ◌∙◌, arith}
 use Rattle.std.specs.Prelude.{◌==◌}
-use Rattle.std.proofs.lemmas.List.{drop_all, drop_more, length-map}
-use Rattle.instruction_set.specs.declared.letter.Letter.{Letter}
-use Rattle.logic_tasks.specs.Inputs.{HasTopBytes, inputs_of, low_of}
-use Rattle.logic_tasks.specs.TaskBits.{bits_of_tasks, tasks_of}
-use Rattle.logic_tasks.specs.TaskBitsLaws.{bit_at-number_of, get_or-tasks_of, length-tasks_of, number_of-tasks_of}
-use Rattle.virtual_cpu.specs.declared.cpu_image.CpuImage.{CpuImage}
-use Rattle.saved_lines.specs.SavedForms.{IsOrganismLine, IsMachineLine}
-use Rattle.saved_lines.specs.SavedReading.{saved_number_at, head_of, organism_at, organism_of, machine_of}
-use Rattle.saved_lines.specs.SavedTables.{any_flag, head_ranges, organism_ranges, machine_ranges}
-use Rattle.saved_lines.specs.SavedText.{Organism, Machine, flag_number, head_numbers, organism_numbers}
-use Rattle.saved_lines.specs.SavedRows.{AreWithin}
-use Rattle.saved_lines.specs.SavedValues.{HeadValues, OrganismValues}
+use Rattle.saved_lines.proofs.Prelude.{drop_all, drop_more, length-map, Letter, HasTopBytes, inputs_of, low_of, bits_of_tasks, tasks_of, bit_at-number_of, get_or-tasks_of, length-tasks_of, number_of-tasks_of, CpuImage, IsOrganismLine, IsMachineLine, saved_number_at, head_of, organism_at, organism_of, machine_of, any_flag, head_ranges, organism_ranges, machine_ranges, Organism, Machine, flag_number, head_numbers, organism_numbers, AreWithin, HeadValues, OrganismValues}
 use Rattle.saved_lines.proofs.RangeLemmas.{bound_at, within_length}
 use Rattle.saved_lines.proofs.FitsLemmas.{machine_fields}
 

@@ -1,12 +1,7 @@
 -- The number of 32 bits that a word spells, by its first byte.
 use Rattle.std.proofs.Common.{◌≡◌, ℕ, zero, suc, ℤ, pos, ◌-◌, ◌<◌, ◌≤◌, List, [], ◌∷◌, Some, inl, inr, subst, refl, ap, arith, zero-add}
 use Rattle.std.specs.Prelude.{negsuc, FitsSigned, ◌-ℤ◌, ◌==◌}
-use Rattle.std.specs.Int.{w32, cast_signed, cast_unsigned}
-use Rattle.std.proofs.lemmas.Int.{to_z-of_z, to_z_pos}
-use Rattle.std.proofs.lemmas.Bool.{cases_Bool}
-use Rattle.numerals.specs.Numeral.{number_of}
-use Rattle.log_lines.proofs.FieldLaws.{some_map}
-use Rattle.saved_lines.specs.SavedFields.{below_zero, read_signed}
+use Rattle.saved_lines.proofs.Prelude.{w32, cast_signed, cast_unsigned, to_z-of_z, to_z_pos, cases_Bool, number_of, some_map, below_zero, read_signed}
 use Rattle.saved_lines.proofs.RangeLemmas.{number_within}
 
 -- one more below 0

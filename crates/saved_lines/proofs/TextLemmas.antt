@@ -1,14 +1,9 @@
 -- The words of a line, part by part.
 use Rattle.std.proofs.Common.{◌≡◌, ℕ, ◌<◌, arith, refl, ap, length, List, [], ◌∷◌, ◌++◌, map, append_assoc, append-nil}
-use Rattle.instruction_set.specs.declared.letter.Letter.{Letter}
-use Rattle.instruction_set.specs.Letter.{byte_of}
-use Rattle.virtual_cpu.specs.declared.cpu_image.CpuImage.{CpuImage}
 use Rattle.std.specs.Prelude.{Result, Ok, Err, OnOk}
-use Rattle.log_lines.specs.LineText.{words_text}
-use Rattle.log_lines.specs.LineWords.{decimals}
-use Rattle.saved_lines.specs.SavedText.{digit_of, machine_numbers, machine_words, nops_text, signed_words}
+use Rattle.saved_lines.proofs.Prelude.{Letter, byte_of, CpuImage, words_text, digit_of, machine_numbers, machine_words, nops_text, signed_words, words_text-append, words_text_more}
+use Rattle.log_lines.specs.Line.{decimals}
 use Rattle.log_lines.proofs.KeptLemmas.{keeps_front}
-use Rattle.log_lines.proofs.TextLemmas.{words_text-append, words_text_more}
 
 -- numbers, and a text
 pub organism_line : (numbers : List (List ℕ)) (text : List ℕ)

@@ -1,14 +1,6 @@
 -- The fields of a saved world that no log has (docs/FORMATS.md, "Saved worlds").
 use Rattle.std.specs.Prelude.{ℕ, ℤ, pos, negsuc, ◌-◌, ◌<◌, ◌==◌, ◌&&◌, Bool, true, false, nat_lt, nat_le, List, [], ◌∷◌, map, length, Option, Some, None, option_and_then, option_map, if◌then◌else◌, FitsSigned}
-use Rattle.std.specs.Int.{w32}
-use Rattle.std.specs.Fmt.{signed_decimal}
-use Rattle.std.specs.List.{list_all}
-use Rattle.std.specs.Str.{bytes_eq}
-use Rattle.instruction_set.specs.declared.letter.Letter.{Letter}
-use Rattle.instruction_set.specs.Letter.{letter_of_byte}
-use Rattle.label_search.specs.Template.{is_nop, IsTemplate}
-use Rattle.numerals.specs.Numeral.{number_of}
-use Rattle.log_lines.specs.Fields.{Field, each, given}
+use Rattle.saved_lines.specs.Prelude.{w32, signed_decimal, list_all, bytes_eq, Letter, letter_of_byte, is_nop, IsTemplate, number_of, Field, each, given}
 use Rattle.saved_lines.specs.SavedText.{digit_of, nops_text}
 
 -- the number behind a minus

@@ -1,16 +1,14 @@
--- The ranges of the values of each line of a saved world (docs/FORMATS.md, "Saved worlds").
-use Rattle.std.specs.Prelude.{◌≡◌, ℕ, ◌<◌, ◌≤◌, ◌^◌, ℤ, FitsSigned, List, length}
-use Rattle.std.specs.Int.{w32}
-use Rattle.std.specs.List.{AllByRecursion}
-use Rattle.genome.specs.Genome.{IsGenome}
-use Rattle.label_search.specs.Template.{IsTemplate}
-use Rattle.logic_tasks.specs.Inputs.{HasTopBytes}
-use Rattle.divide_rules.specs.Rules.{AreRules}
-use Rattle.mutations.specs.Rates.{RateNumbers}
+-- The ranges of the values of each line of a saved world, and that a line has one spelling
+-- (docs/FORMATS.md, "Saved worlds").
+use Rattle.std.specs.Prelude.{◌≡◌, ℕ, ◌<◌, ◌≤◌, ◌^◌, ℤ, FitsSigned, List, length, Some}
+use Rattle.saved_lines.specs.Prelude.{w32, AllByRecursion, IsGenome, letters, IsTemplate, HasTopBytes, AreRules, RateNumbers, CpuImage}
 use Rattle.mutations.specs.RecordForm.{IsWithin}
-use Rattle.virtual_cpu.specs.declared.cpu_image.CpuImage.{CpuImage}
-use Rattle.saved_lines.specs.SavedText.{SavedLine, Head, Organism, Machine, Count}
-use Rattle.saved_lines.specs.SavedValues.{HeadValues, OrganismValues}
+use Rattle.saved_lines.specs.SavedText.{SavedLine, Head, Organism, Machine, Count, saved_row_text}
+use Rattle.saved_lines.specs.SavedValues.{HeadValues, OrganismValues, head_values}
+use Rattle.saved_lines.specs.SavedReading.{saved_line_of}
+use Rattle.saved_lines.specs.declared.saved_line.OrganismLine.{OrganismLine}
+use Rattle.saved_lines.specs.declared.saved_line.SavedLine as read_line
+use Rattle.saved_lines.specs.declared.saved_line.SavedLine.TheVariants as of
 
 -- six rates in parts per million
 pub record AreRates (rates : RateNumbers) : Type 0 where
@@ -73,3 +71,33 @@ HasSavedForm (Head head) = IsHead head
 HasSavedForm (Organism o) = IsOrganismLine o
 HasSavedForm (Machine m) = IsMachineLine m
 HasSavedForm (Count organisms) = organisms < 2 ^ 64
+
+-- a line is read from its text, and from no other; each byte of it is above 10, the newline
+pub record OneSpelling : Type 0 where
+  pub again : (line : SavedLine) → HasSavedForm line
+      → saved_line_of (saved_row_text line) ≡ Some line
+  pub takes : (bytes : List ℕ) (line : SavedLine) → saved_line_of bytes ≡ Some line
+      → (saved_row_text line ≡ bytes) × HasSavedForm line
+  pub one_line : (line : SavedLine) → HasSavedForm line
+      → AllByRecursion (λ b. 10 < b) (saved_row_text line)
+
+-- the values of an organism's line
+abbrev pub values_of_organism : OrganismLine → OrganismValues
+values_of_organism line = record {
+  cell = line.cell;
+  id = line.id;
+  merit = line.merit;
+  credited = line.credited;
+  age = line.age;
+  read = line.read;
+  gestation = line.gestation;
+  inputs = line.inputs;
+  genome = letters line.genome;
+}
+
+-- the values of a line
+abbrev pub values_of_line : read_line.SavedLine → SavedLine
+values_of_line (of.Head head) = Head (head_values head)
+values_of_line (of.Organism line) = Organism (values_of_organism line)
+values_of_line (of.Machine image) = Machine image
+values_of_line (of.Count organisms) = Count organisms

@@ -1,14 +1,6 @@
 -- The line of a saved world that a text has (docs/FORMATS.md, "Saved worlds").
 use Rattle.std.specs.Prelude.{ℕ, ◌==◌, ◌&&◌, Bool, nat_le, List, [], ◌∷◌, drop, Option, None, if◌then◌else◌, option_and_then, option_map, slice_index_or}
-use Rattle.std.specs.Str.{bytes_eq}
-use Rattle.std.specs.List.{slice_split}
-use Rattle.instruction_set.specs.declared.letter.Letter.{Letter}
-use Rattle.logic_tasks.specs.Inputs.{inputs_of}
-use Rattle.logic_tasks.specs.TaskBits.{tasks_of}
-use Rattle.log_lines.specs.Fields.{given}
-use Rattle.log_lines.specs.Kinds.{large}
-use Rattle.log_lines.specs.Rows.{last}
-use Rattle.virtual_cpu.specs.declared.cpu_image.CpuImage.{CpuImage}
+use Rattle.saved_lines.specs.Prelude.{bytes_eq, slice_split, Letter, inputs_of, tasks_of, given, large, last, CpuImage}
 use Rattle.saved_lines.specs.SavedValues.{HeadValues, OrganismValues}
 use Rattle.saved_lines.specs.SavedTables.{MachineFields, head_row, organism_row, machine_row}
 use Rattle.saved_lines.specs.SavedText.{SavedLine, Head, Organism, Machine, Count}

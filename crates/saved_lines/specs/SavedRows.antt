@@ -1,9 +1,6 @@
 -- Several words at the front of a row (docs/FORMATS.md, "Saved worlds").
 use Rattle.std.specs.Prelude.{◌≡◌, ℕ, zero, suc, ◌≤◌, List, [], ◌∷◌, ◌++◌, map, length, Option, Some, None, option_and_then, option_map, decimal}
-use Rattle.std.specs.List.{AllByRecursion}
-use Rattle.numerals.specs.Numeral.{number_of}
-use Rattle.log_lines.specs.Fields.{Field}
-use Rattle.log_lines.specs.Rows.{Row}
+use Rattle.saved_lines.specs.Prelude.{AllByRecursion, number_of, Field, Row}
 use Rattle.saved_lines.specs.declared.range.Range.{Range}
 
 -- the words of values, what is read of the front of words, with those behind it, and which fit

@@ -1,9 +1,7 @@
 -- The tables by which the lines of a saved world are read: a row of fields for each line, with the
 -- ranges of its numbers (docs/FORMATS.md, "Saved worlds").
 use Rattle.std.specs.Prelude.{ℕ, ℤ, Bool, List, [], ◌∷◌}
-use Rattle.instruction_set.specs.declared.letter.Letter.{Letter}
-use Rattle.log_lines.specs.Fields.{genome_field}
-use Rattle.log_lines.specs.Rows.{Row, last, ◌◂◌}
+use Rattle.saved_lines.specs.Prelude.{Letter, genome_field, Row, last, ◌◂◌}
 use Rattle.saved_lines.specs.SavedFields.{signed, nops, marks}
 use Rattle.saved_lines.specs.declared.range.Range.{Range}
 use Rattle.saved_lines.specs.SavedRows.{from_to, several, within, whole, ◌◁◌}

@@ -1,15 +1,9 @@
 -- The lines of a saved world, and the text of each (docs/FORMATS.md, "Saved worlds"): a mark, and
 -- words, each behind a space.
+use Rattle.saved_lines.specs.Prelude.{signed_decimal, Letter, byte_of, low_of, bits_of_tasks, words_text, CpuImage}
 use Prim.Native.Char.{code}
 use Rattle.std.specs.Prelude.{ℕ, ℤ, Bool, true, false, List, [], ◌∷◌, ◌++◌, map, if◌then◌else◌, slice_index_or}
-use Rattle.std.specs.Fmt.{signed_decimal}
-use Rattle.instruction_set.specs.declared.letter.Letter.{Letter}
-use Rattle.instruction_set.specs.Letter.{byte_of}
-use Rattle.logic_tasks.specs.Inputs.{low_of}
-use Rattle.logic_tasks.specs.TaskBits.{bits_of_tasks}
-use Rattle.log_lines.specs.LineText.{words_text}
-use Rattle.log_lines.specs.LineWords.{decimals}
-use Rattle.virtual_cpu.specs.declared.cpu_image.CpuImage.{CpuImage}
+use Rattle.log_lines.specs.Line.{decimals}
 use Rattle.saved_lines.specs.SavedValues.{HeadValues, OrganismValues}
 
 -- one line of a saved world

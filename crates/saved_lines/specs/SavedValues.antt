@@ -1,9 +1,6 @@
 -- What the lines of a saved world say (docs/FORMATS.md, "Saved worlds").
 use Rattle.std.specs.Prelude.{ℕ, Bool, List}
-use Rattle.instruction_set.specs.declared.letter.Letter.{Letter}
-use Rattle.genome.specs.Genome.{letters}
-use Rattle.divide_rules.specs.Rules.{RuleNumbers}
-use Rattle.mutations.specs.Rates.{RateNumbers, numbers_of}
+use Rattle.saved_lines.specs.Prelude.{Letter, letters, RuleNumbers, RateNumbers, numbers_of}
 use Rattle.saved_lines.specs.declared.state_head.StateHead.{StateHead}
 use Rattle.saved_lines.specs.declared.resident.Resident.{Resident}
 

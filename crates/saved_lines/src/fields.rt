@@ -1,8 +1,7 @@
 // Reads the fields of a line that are more than a number.
 ghost use Rattle.std.specs.Prelude.{◌≡◌, IfOk, option_map, pos};
-ghost use Rattle.label_search.specs.Template.{is_nop};
+ghost use Rattle.saved_lines.specs.Prelude.{is_nop, number_of};
 ghost use Rattle.log_lines.specs.Fields as fields_spec;
-ghost use Rattle.numerals.specs.Numeral.{number_of};
 ghost use Rattle.saved_lines.specs.SavedFields as saved_fields;
 
 use avida_port::Memory;

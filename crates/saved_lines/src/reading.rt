@@ -1,13 +1,13 @@
 // Reads the line of a saved world that a text has.
 ghost use Rattle.std.specs.Prelude.{◌≡◌, ◌∷◌, [], Some, IfOk, IfSome, option_and_then, option_copied, option_map};
+ghost use Rattle.saved_lines.specs.Prelude.{genome_field, given};
 ghost use Rattle.genome.specs.Genome as genome_spec;
-ghost use Rattle.log_lines.specs.Fields.{genome_field, given};
 ghost use Rattle.log_lines.specs.Kinds as kinds;
-ghost use Rattle.log_lines.specs.Rows as rows;
+ghost use Rattle.log_lines.specs.Kinds as rows;
 ghost use Rattle.log_lines.specs.Words.{read_first, words_of};
 ghost use Rattle.saved_lines.specs.SavedFields.{marks, nops, signed};
 ghost use Rattle.saved_lines.specs.SavedTables.{head_ranges, head_row, machine_ranges, machine_row, organism_ranges, organism_row, texts_row};
-ghost use Rattle.saved_lines.specs.SavedLines.{values_of_line, values_of_organism};
+ghost use Rattle.saved_lines.specs.SavedForms.{values_of_line, values_of_organism};
 ghost use Rattle.saved_lines.specs.SavedReading as reading;
 ghost use Rattle.saved_lines.specs.SavedRows.{AreWithin, read_several, read_within};
 ghost use Rattle.saved_lines.specs.SavedText as text;

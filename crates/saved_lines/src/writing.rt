@@ -1,9 +1,6 @@
 // Writes the lines of a saved world, each into the bytes that it is given.
 ghost use Rattle.std.specs.Prelude.{◌≡◌, ◌∷◌, ◌++◌, [], map, take, Ok, OnOk, OnErr};
-ghost use Rattle.std.specs.Fmt.{signed_decimal};
-ghost use Rattle.instruction_set.specs.Letter.{byte_of};
-ghost use Rattle.log_lines.specs.Kept.{Keeps};
-ghost use Rattle.log_lines.specs.LineText.{words_text};
+ghost use Rattle.saved_lines.specs.Prelude.{signed_decimal, byte_of, Keeps, words_text};
 ghost use Rattle.saved_lines.specs.SavedText.{Count, Head, Machine, count_text, digit_of, flag_number, head_numbers, machine_numbers, nops_text, organism_numbers, organism_text, resident_text, saved_head_text, saved_row_text, signed_words};
 ghost use Rattle.saved_lines.specs.SavedValues.{head_values, organism_values};
 

@@ -1,20 +1,11 @@
 -- Scenes that differ in nothing but what is told of those that ever were.
 use Rattle.std.proofs.Common.{◌≡◌, ℕ, List, [], ◌∷◌, ◌++◌, length, refl, sym, subst, ◌∙◌, length-append}
 use Rattle.std.specs.Prelude.{fold}
-use Rattle.std.specs.List.{scan}
+use Rattle.saved_worlds.proofs.Prelude.{scan, OrganismState, ConfigValues, id_at, Scene, next_id, with_death, with_deaths, with_newcomer, CellLife, Delivery, deaths_of, after_burials, birth_link, child_of_birth, placings_of, with_newborn, turns_of, after_births, death_line, death_lines, birth_line, birth_lines, head_at, config_of_head}
 use Rattle.std.specs.Option.{option_to_list}
 use Rattle.birth_board.specs.declared.placing.Placing.{Placing}
-use Rattle.organism.specs.OrganismState.{OrganismState}
-use Rattle.lineage_log.specs.Links.{Link}
-use Rattle.world_config.specs.Values.{ConfigValues}
-use Rattle.world_rules.specs.World.{id_at}
-use Rattle.world_rules.specs.Lives.{CellLife}
-use Rattle.world_rules.specs.Scene.{Scene, next_id, with_death, with_deaths, with_newcomer}
+use Rattle.lineage_log.specs.Ancestry.{Link}
 use Rattle.world_rules.specs.Statistics.{scene_stats}
-use Rattle.world_rules.specs.Update.{Delivery, deaths_of, after_burials, birth_link, child_of_birth, placings_of, with_newborn, turns_of, after_births}
-use Rattle.world_rules.specs.LogText.{death_line, death_lines, birth_line, birth_lines}
-use Rattle.saved_worlds.specs.SavedState.{head_at}
-use Rattle.saved_worlds.specs.Resuming.{config_of_head}
 
 -- both are of this update, and agree in cells, in those that died, and in how many ever were
 pub record Alike (update : ℕ) (a b : Scene) : Type 0 where

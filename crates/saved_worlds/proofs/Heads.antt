@@ -1,22 +1,10 @@
 -- The head of a run's state is in range.
 use Rattle.std.proofs.Common.{◌≡◌, ◌+◌, ◌≤◌, ◌^◌, ℕ, Bool, true, List, [], ◌∷◌, arith}
 use Rattle.std.specs.Prelude.{fold, nat_lt}
-use Rattle.std.specs.List.{AllByRecursion}
-use Rattle.std.proofs.lemmas.Bool.{and_parts, leb-true}
-use Rattle.std.proofs.lemmas.List.Elements.{All-filter, recursion_from_All}
-use Rattle.mutations.specs.Rates.{RateNumbers}
+use Rattle.saved_worlds.proofs.Prelude.{AllByRecursion, and_parts, leb-true, All-filter, recursion_from_All, RateNumbers, Config, IsWithin, frame_of, Frame, EventValue, WhatValue, clear, event_fits, event_values, inject, rate, what_fits, values_of, rates_after, rates_after_what, rates_at, with_rate, head_at, AreRates, IsHead}
 use Rattle.mutations.specs.declared.rate_name.RateName.{RateName}
 use Rattle.mutations.specs.declared.rate_name.RateName.TheVariants.{Copy, Insert, Delete, SitePoint, SiteInsert, SiteDelete}
-use Rattle.world_config.specs.declared.config.Config.{Config}
-use Rattle.mutations.specs.RecordForm.{IsWithin}
-use Rattle.world_config.specs.Bounds.{frame_of}
-use Rattle.world_config.specs.Events.{EventValue, WhatValue, clear, event_fits, event_values, inject, rate, what_fits}
-use Rattle.world_config.specs.KeyTable.{Frame}
-use Rattle.world_config.specs.Shown.{values_of}
 use Rattle.world_laws.proofs.ConfigBounds.{config_is}
-use Rattle.world_rules.specs.Settings.{rates_after, rates_after_what, rates_at, with_rate}
-use Rattle.saved_worlds.specs.SavedState.{head_at}
-use Rattle.saved_worlds.specs.ValidState.{AreRates, IsHead}
 
 -- six rates, each in range
 six_fit : (rates : RateNumbers) → rates.copy ≤ 1000000 → rates.insert ≤ 1000000

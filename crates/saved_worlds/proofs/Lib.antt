@@ -1,3 +1,4 @@
+pub mod Prelude
 pub mod Updates
 pub mod Alike
 pub mod Quiet

@@ -1,15 +1,8 @@
 -- A head and organisms of which a saved world can be made are a state that can go on.
 use Rattle.std.proofs.Common.{◌≡◌, ◌∙◌, ◌⊎◌, inl, inr, refl, sym, ap, subst, ℕ, zero, suc, ◌+◌, ◌*◌, ◌<◌, ◌^◌, List, [], ◌∷◌, length, get_or, Option, Some, None, replicate, arith}
 use Rattle.std.specs.Prelude.{fold, slice_get, slice_set}
-use Rattle.std.proofs.lemmas.Bool.{cases_eq, cases_lt}
-use Rattle.std.proofs.lemmas.List.{length-replicate, length-set}
+use Rattle.saved_worlds.proofs.Prelude.{cases_eq, cases_lt, length-replicate, length-set, Occupant, IsInRange, HeadValues, config_of_head, forgotten, Placed, state_of_lines, with_placed, AreSaved, CanGoOn, FitsText, MayLive}
 use Rattle.std.proofs.lemmas.Option.{get_or_from_slice_get, slice_get_within}
-use Rattle.world_rules.specs.World.{Occupant}
-use Rattle.world_laws.specs.Ranges.{IsInRange}
-use Rattle.saved_lines.specs.SavedValues.{HeadValues}
-use Rattle.saved_worlds.specs.Resuming.{config_of_head, forgotten}
-use Rattle.saved_worlds.specs.SavedGrammar.{Placed, state_of_lines, with_placed}
-use Rattle.saved_worlds.specs.ValidState.{AreSaved, CanGoOn, FitsText, MayLive}
 use Rattle.saved_worlds.proofs.Valid.{head_up}
 
 -- nobody stands in empty cells

@@ -1,26 +1,11 @@
 -- Once its events are over, a configuration is as one without events.
 use Rattle.std.proofs.Common.{◌≡◌, ℕ, ◌+◌, ◌<◌, ◌≤◌, List, [], ◌∷◌, true, false, map, refl, sym, ap, ◌∙◌, arith, Option, Some, None}
 use Rattle.std.specs.Prelude.{filter, fold, nat_le, nat_lt, ◌==◌, ◌&&◌}
-use Rattle.std.specs.List.{AllByRecursion, enumerate_from, range_with_len}
-use Rattle.std.proofs.lemmas.Bool.{and_parts, leb-true}
-use Rattle.std.proofs.lemmas.Bool.Decides.{nat_tests}
-use Rattle.std.proofs.lemmas.List.Elements.{recursion_from_All}
-use Rattle.world_config.specs.declared.config.Config.{Config}
-use Rattle.world_config.specs.Bounds.{frame_of}
-use Rattle.world_config.specs.Events.{EventValue, what_fits, event_fits, event_values}
-use Rattle.world_config.specs.KeyTable.{Frame}
-use Rattle.world_config.specs.Shown.{values_of}
-use Rattle.world_config.specs.Values.{ConfigValues}
-use Rattle.world_rules.specs.World.{Occupant}
-use Rattle.world_rules.specs.Settings.{rates_after, rates_at, settings_at}
+use Rattle.saved_worlds.proofs.Prelude.{AllByRecursion, enumerate_from, range_with_len, and_parts, leb-true, nat_tests, recursion_from_All, Config, frame_of, Frame, EventValue, what_fits, event_fits, event_values, values_of, ConfigValues, Occupant, rates_after, rates_at, settings_at, cell_life, life_of, slices_at, slice_at, lives_of, events_at, head_at, config_of_head}
 use Rattle.organism.specs.SettingNumbers.{SettingNumbers}
-use Rattle.organism.specs.OrganismLife.{life_by}
+use Rattle.organism.specs.Lived.{life_by}
 use Rattle.random_streams.specs.declared.purpose.Purpose.TheVariants.{Run}
 use Rattle.random_streams.specs.RandomStream.{draw}
-use Rattle.world_rules.specs.Lives.{cell_life, life_of, slices_at, slice_at, lives_of}
-use Rattle.world_rules.specs.Update.{events_at}
-use Rattle.saved_worlds.specs.SavedState.{head_at}
-use Rattle.saved_worlds.specs.Resuming.{config_of_head}
 
 -- each event is of one of the run's updates
 abbrev pub HappensInTime : ConfigValues → Type 0

@@ -1,18 +1,12 @@
 -- What bytes are read as is what the function that reads them answers.
 use Rattle.std.proofs.Common.{◌≡◌, ℕ, ◌+◌, List, [], ◌∷◌, ◌++◌, length, Option, Some, None, Result, Ok, Err, refl, sym, ap, subst, ◌∙◌, arith, append_assoc, zero-add}
 use Rattle.std.specs.Prelude.{◌≢◌, flat_map, option_and_then}
-use Rattle.std.specs.List.{AllByRecursion, join_with_byte}
+use Rattle.saved_worlds.proofs.Prelude.{AllByRecursion, join_with_byte, some_then, split_first, saved_line_of, SavedLine, saved_line_text, saved_row_text, SavedState, SavedPlace, Before, Among, Halfway, After, after_saved_line, last_saved_piece, one_saved_piece, pieces_state, saved_of, told_saved_line, BeginsWithLine, EndsSaved, ReadsSaved, told_saved_lines}
 use Rattle.std.proofs.lemmas.List.Splits.{join_with_byte-slice_split}
-use Rattle.log_lines.proofs.FieldLaws.{some_then, split_first}
 use Rattle.saved_lines.specs.SavedForms.{HasSavedForm}
-use Rattle.saved_lines.specs.SavedReading.{saved_line_of}
-use Rattle.saved_lines.specs.SavedText.{SavedLine, saved_line_text, saved_row_text}
 use Rattle.saved_lines.proofs.SavedLineLaws.{line_again, line_plain, line_takes, numbers_spell}
-use Rattle.saved_worlds.specs.SavedState.{SavedState}
 use Rattle.saved_worlds.specs.declared.saved_stop.SavedStop.{SavedStop}
 use Rattle.saved_worlds.specs.declared.saved_stop.SavedStop.TheVariants as stop
-use Rattle.saved_worlds.specs.SavedGrammar.{SavedPlace, Before, Among, Halfway, After, after_saved_line, last_saved_piece, one_saved_piece, pieces_state, saved_of, told_saved_line}
-use Rattle.saved_worlds.specs.ReadsSaved.{BeginsWithLine, EndsSaved, ReadsSaved, told_saved_lines}
 use Rattle.saved_worlds.proofs.SavedPieces.{cut, cut_parts, cut_some, line_on, line_told}
 
 -- a line and its newline before other bytes

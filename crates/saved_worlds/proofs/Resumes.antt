@@ -1,17 +1,7 @@
 -- The worlds of a state and of its run agree, update by update, and so do their lines.
 use Rattle.std.proofs.Common.{◌≡◌, ℕ, zero, suc, ◌+◌, ◌<◌, ◌≤◌, List, [], ◌++◌, length, refl, sym, ap, ◌∙◌, arith, append_assoc, add-zero, append-nil}
-use Rattle.std.proofs.lemmas.List.{length-replicate}
+use Rattle.saved_worlds.proofs.Prelude.{length-replicate, ConfigValues, World, Scene, rates_at, CellLife, after_lives, deaths_of, after_burials, births_of, after_births, after_events, events_at, last_scene, scene_of_lives, world_of, lives_after, next_scene, next_world, world_after, event_lines, lines_of_lives, update_lines, head_text, update_text, updates_text, end_text, log_text, head_at, state_of_world, state_of, config_of_head, forgotten, world_of_state, with_world, next_state, saved_state_after, next_text, later_texts, continued_text}
 use Rattle.lineage_log.specs.LogGrammar.{lines_text}
-use Rattle.world_config.specs.Values.{ConfigValues}
-use Rattle.world_rules.specs.World.{World}
-use Rattle.world_rules.specs.Settings.{rates_at}
-use Rattle.world_rules.specs.Lives.{CellLife}
-use Rattle.world_rules.specs.Scene.{Scene}
-use Rattle.world_rules.specs.Update.{after_lives, deaths_of, after_burials, births_of, after_births, after_events, events_at, last_scene, scene_of_lives, world_of, lives_after, next_scene, next_world}
-use Rattle.world_rules.specs.WorldRun.{world_after}
-use Rattle.world_rules.specs.LogText.{event_lines, lines_of_lives, update_lines, head_text, update_text, updates_text, end_text, log_text}
-use Rattle.saved_worlds.specs.SavedState.{head_at, state_of_world, state_of}
-use Rattle.saved_worlds.specs.Resuming.{config_of_head, forgotten, world_of_state, with_world, next_state, saved_state_after, next_text, later_texts, continued_text}
 use Rattle.saved_worlds.proofs.Updates.{update_of}
 use Rattle.saved_worlds.proofs.Quiet.{HappensInTime, no_events, rates_stay, lives_same}
 use Rattle.saved_worlds.proofs.Alike.{Alike, death_lines_same, burials_alike, births_alike, birth_lines_same, stats_same}

@@ -1,13 +1,6 @@
 -- The state of each world of a run can go on, and has the form of a saved world.
 use Rattle.std.proofs.Common.{◌+◌, ◌*◌, ◌≤◌, ◌^◌, ℕ, sym, subst, length, arith}
-use Rattle.world_config.specs.declared.config.Config.{Config}
-use Rattle.world_config.specs.Shown.{values_of}
-use Rattle.world_rules.specs.World.{World}
-use Rattle.world_rules.specs.WorldRun.{world_after}
-use Rattle.world_laws.specs.Ranges.{HasFewIds, StandInRange}
-use Rattle.saved_worlds.specs.Resuming.{config_of_head, world_of_state}
-use Rattle.saved_worlds.specs.SavedState.{SavedState, head_at, state_of_world}
-use Rattle.saved_worlds.specs.ValidState.{CanGoOn, FitsText, IsHead}
+use Rattle.saved_worlds.proofs.Prelude.{Config, values_of, World, world_after, HasFewIds, StandInRange, config_of_head, world_of_state, SavedState, head_at, state_of_world, CanGoOn, FitsText, IsHead}
 use Rattle.saved_worlds.proofs.Heads.{head_of_run}
 use Rattle.saved_worlds.proofs.Valid.{head_up, stand_to, state_stands}
 

@@ -1,14 +1,8 @@
 -- The pieces of a saved world's bytes.
 use Rattle.std.proofs.Common.{◌≡◌, ℕ, ◌+◌, ◌<◌, List, [], ◌∷◌, ◌++◌, Option, Some, refl, ap, ◌∙◌, arith, inl, inr}
 use Rattle.std.specs.Prelude.{◌==◌}
-use Rattle.std.specs.List.{onto_first, AllByRecursion}
-use Rattle.std.proofs.lemmas.Bool.{cases_Bool}
-use Rattle.std.proofs.lemmas.Bool.Decides.{nat_tests}
-use Rattle.log_lines.proofs.FieldLaws.{split_first}
+use Rattle.saved_worlds.proofs.Prelude.{onto_first, AllByRecursion, cases_Bool, nat_tests, split_first, saved_line_of, SavedLine, SavedPlace, after_saved_line, one_saved_piece, pieces_state, told_saved_line}
 pub use Rattle.lineage_log.proofs.LogLaws.{cut, cut_some}
-use Rattle.saved_lines.specs.SavedReading.{saved_line_of}
-use Rattle.saved_lines.specs.SavedText.{SavedLine}
-use Rattle.saved_worlds.specs.SavedGrammar.{SavedPlace, after_saved_line, one_saved_piece, pieces_state, told_saved_line}
 
 -- the first of several pieces begins with the byte that was put onto it
 onto_parts : (b : ℕ) (parts : List (List ℕ)) (piece next : List ℕ) (pieces : List (List ℕ))

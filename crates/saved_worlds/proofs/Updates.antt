@@ -1,13 +1,7 @@
 -- Each world of a run has the number of its update.
 use Rattle.std.proofs.Common.{◌≡◌, ℕ, zero, suc, ◌+◌, List, [], ◌∷◌, refl, ap, ◌∙◌, arith}
 use Rattle.std.specs.Prelude.{fold}
-use Rattle.world_config.specs.Events.{WhatValue, inject, clear, rate}
-use Rattle.world_config.specs.Values.{ConfigValues}
-use Rattle.world_rules.specs.World.{World, first_world}
-use Rattle.world_rules.specs.Lives.{CellLife}
-use Rattle.world_rules.specs.Scene.{Scene, with_death, cells_from, with_newcomer}
-use Rattle.world_rules.specs.Update.{with_newborn, deaths_of, after_burials, births_of, turns_of, events_at, after_births, after_what, after_event, after_events, last_scene, scene_of_lives, next_scene, next_world, lives_after, after_lives}
-use Rattle.world_rules.specs.WorldRun.{world_after}
+use Rattle.saved_worlds.proofs.Prelude.{WhatValue, inject, clear, rate, ConfigValues, World, first_world, Scene, with_death, cells_from, with_newcomer, CellLife, with_newborn, deaths_of, after_burials, births_of, turns_of, events_at, after_births, after_what, after_event, after_events, last_scene, scene_of_lives, next_scene, next_world, lives_after, after_lives, world_after}
 
 -- what changes scenes one after another keeps the update
 fold_keeps : {X : Type 0} (f : Scene → X → Scene)

@@ -1,24 +1,11 @@
 -- A state that can go on still can one update later.
 use Rattle.std.proofs.Common.{◌≡◌, ◌∙◌, sym, ap, subst, ℕ, zero, suc, ◌+◌, ◌-◌, ◌*◌, ◌<◌, ◌≤◌, ◌^◌, Option, Some, List, length, replicate, arith}
 use Rattle.std.specs.Prelude.{slice_get}
+use Rattle.saved_worlds.proofs.Prelude.{length-replicate, RateNumbers, IsWithin, OrganismState, EventValue, ConfigValues, rates_at, next_world, Occupant, World, HaveOwnIds, IsInRange, StandInRange, StayInRange, HeadValues, config_of_head, forgotten, next_state, saved_state_after, world_of_state, SavedState, head_at, state_of_world, CanGoOn, FitsText, HasRoomFor, IsHeadUpTo}
 use Rattle.std.proofs.Math.Nat.{mul-le-mul}
-use Rattle.std.proofs.lemmas.List.{length-replicate}
 use Rattle.instruction_set.specs.declared.letter.Letter.{Letter}
 use Rattle.instruction_set.specs.declared.letter.Letter.TheVariants.{NopA}
-use Rattle.mutations.specs.Rates.{RateNumbers}
-use Rattle.mutations.specs.RecordForm.{IsWithin}
-use Rattle.organism.specs.OrganismState.{OrganismState}
-use Rattle.world_config.specs.Events.{EventValue}
-use Rattle.world_config.specs.Values.{ConfigValues}
-use Rattle.world_rules.specs.Settings.{rates_at}
-use Rattle.world_rules.specs.Update.{next_world}
-use Rattle.world_rules.specs.World.{Occupant, World}
 use Rattle.world_laws.specs.Bounds.{IsConfig}
-use Rattle.world_laws.specs.Ranges.{HaveOwnIds, IsInRange, StandInRange, StayInRange}
-use Rattle.saved_lines.specs.SavedValues.{HeadValues}
-use Rattle.saved_worlds.specs.Resuming.{config_of_head, forgotten, next_state, saved_state_after, world_of_state}
-use Rattle.saved_worlds.specs.SavedState.{SavedState, head_at, state_of_world}
-use Rattle.saved_worlds.specs.ValidState.{CanGoOn, FitsText, HasRoomFor, IsHeadUpTo}
 use Rattle.saved_worlds.proofs.Resumes.{next_state_is}
 use Rattle.saved_worlds.proofs.Updates.{next_update}
 

@@ -3,8 +3,6 @@ pub use Rattle.world_rules.specs.LogText
 pub use Rattle.saved_lines.specs.SavedText
 pub mod SavedState
 pub mod Resuming
-pub mod SavedWorldText
 pub mod SavedOrder
-pub mod ReadsSaved
 pub mod SavedGrammar
 pub mod ValidState

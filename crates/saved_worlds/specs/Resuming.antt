@@ -1,7 +1,7 @@
 -- How a saved world goes on: by the rules of an update, without events (docs/WORLD.md, "Saved
 -- worlds").
 use Rattle.std.specs.Prelude.{ℕ, zero, suc, ◌+◌, List, [], ◌++◌, length, replicate}
-use Rattle.lineage_log.specs.Links.{Link}
+use Rattle.lineage_log.specs.Ancestry.{Link}
 use Rattle.lineage_log.specs.LogGrammar.{lines_text}
 use Rattle.world_config.specs.Values.{ConfigValues}
 use Rattle.world_rules.specs.World.{World, founder_link}

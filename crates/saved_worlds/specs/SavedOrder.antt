@@ -3,7 +3,7 @@
 use Rattle.std.specs.Prelude.{ℕ, ◌*◌, ◌^◌, ◌==◌, ◌&&◌, Bool, true, not, nat_lt, nat_le, List, [], ◌∷◌, ◌++◌, length, fold, replicate, Option, None, Some, if◌then◌else◌, slice_set}
 use Rattle.std.specs.List.{list_all}
 use Rattle.virtual_cpu.specs.declared.cpu_image.CpuImage.{CpuImage}
-use Rattle.virtual_cpu.specs.Image.{machine_of_image}
+use Rattle.virtual_cpu.specs.View.{machine_of_image}
 use Rattle.world_rules.specs.World.{Occupant}
 use Rattle.saved_lines.specs.SavedText.{SavedLine, Head, Organism, Machine as MachineLine, Count}
 use Rattle.saved_lines.specs.SavedValues.{HeadValues, OrganismValues}

@@ -1,21 +1,7 @@
 -- The effect of each letter leaves a machine.
 use Rattle.std.proofs.Common.{◌≡◌, refl, sym, ◌∙◌, ap, subst, ℕ, ℤ, ◌+◌, ◌-◌, ◌*◌, ◌<◌, ◌≤◌, Bool, true, false, cond, Option, Some, None, unwrap_or, List, [], ◌∷◌, ◌++◌, length, set, replicate, All, arith, length-set, length-append, length-drop}
+use Rattle.virtual_cpu.proofs.Prelude.{length-replicate, All-nil, All-push, All-drop, Letter, NopA, NopB, NopC, IfNEqu, IfLess, IfLabel, MovHead, JmpHead, GetHead, SetFlow, Push, Pop, SwapStk, Swap, HCopy, HAlloc, HDivide, HSearch, is_nop, last_ten, Head, Ip, Read, Write, Machine, IsMachine, letter_in_memory, with_flow_at, on_modifier, template_of, on_template, picked, value, next, with_active_stack, with_picked, after_if_n_equ, after_if_less, after_set_flow, after_shift_r, after_shift_l, after_inc, after_dec, after_push, after_pop, after_swap_stk, after_swap, after_add, after_sub, after_nand, after_io, head, after_mov_head, after_jmp_head, after_get_head, after_if_label, after_h_search, with_search, with_match, with_search_for, after_h_copy, extra_places, can_allocate, with_allocation, moving, allocating_if, effect_of}
 use Rattle.std.proofs.lemmas.Bool.Decides.{nat_tests}
-use Rattle.std.proofs.lemmas.List.{length-replicate}
-use Rattle.std.proofs.lemmas.List.Elements.{All-nil, All-push, All-drop}
-use Rattle.instruction_set.specs.declared.letter.Letter.{Letter}
-use Rattle.instruction_set.specs.declared.letter.Letter.TheVariants.{NopA, NopB, NopC, IfNEqu, IfLess, IfLabel, MovHead, JmpHead, GetHead, SetFlow, Push, Pop, SwapStk, Swap, HCopy, HAlloc, HDivide, HSearch}
-use Rattle.label_search.specs.Template.{is_nop, last_ten}
-use Rattle.virtual_cpu.specs.declared.heads.Head.{Head}
-use Rattle.virtual_cpu.specs.declared.heads.Head.TheVariants.{Ip, Read, Write}
-use Rattle.virtual_cpu.specs.Machine.{Machine, IsMachine, letter_in_memory, with_flow_at}
-use Rattle.virtual_cpu.specs.Operands.{on_modifier, template_of, on_template}
-use Rattle.virtual_cpu.specs.RegisterEffects.{picked, value, next, with_active_stack, with_picked, after_if_n_equ, after_if_less, after_set_flow, after_shift_r, after_shift_l, after_inc, after_dec, after_push, after_pop, after_swap_stk, after_swap, after_add, after_sub, after_nand, after_io}
-use Rattle.virtual_cpu.specs.HeadEffects.{head, after_mov_head, after_jmp_head, after_get_head}
-use Rattle.virtual_cpu.specs.TemplateEffects.{after_if_label, after_h_search, with_search, with_match, with_search_for}
-use Rattle.virtual_cpu.specs.Copying.{after_h_copy}
-use Rattle.virtual_cpu.specs.Allocation.{extra_places, can_allocate, with_allocation}
-use Rattle.virtual_cpu.specs.Effects.{moving, allocating_if, effect_of}
 use Rattle.virtual_cpu.proofs.MachineLemmas.{with_numbers, head_at, flow_at, rem-within, number-within, advanced, with_registers, with_stack, active-ten, pushed-ten, popped-ten, on_modifier-machine, on_template-machine, skipping, picked-machine}
 
 -- set-flow leaves a machine: FLOW is at a place of memory whatever the register holds

@@ -1,3 +1,4 @@
+pub mod Prelude
 pub mod EffectLemmas
 pub mod MachineLemmas
 pub mod OperandLemmas

@@ -1,19 +1,9 @@
 -- A machine with one part changed is still a machine.
 use Rattle.std.proofs.Common.{◌≡◌, refl, ◌∙◌, ℕ, ℤ, pos, negsuc, ◌+◌, ◌*◌, ◌<◌, ◌≤◌, ◌%◌, Bool, true, false, Option, Some, None, List, [], ◌∷◌, length, set, replicate, drop, All, arith, length-set, length-append, length-drop, length-take}
-use Rattle.std.specs.Int.{int_rem_euclid}
+use Rattle.virtual_cpu.proofs.Prelude.{int_rem_euclid, length-replicate, All-nil, All-set, All-replicate, Letter, is_nop, Head, Ip, Read, Write, pushed, popped, Machine, IsMachine, fresh_machine, place_after, place_of_number, with_ip_marked, with_head_at, with_flow_at, with_ip_advanced, modifier_of, on_next_place, on_modifier, on_modifier_of, template_of, on_template, on_last_of, skipping_if, active_stack, with_active_stack, with_picked}
 use Rattle.std.specs.Int.RustNames.{unsigned_abs}
-use Rattle.std.proofs.lemmas.List.{length-replicate}
-use Rattle.std.proofs.lemmas.List.Elements.{All-nil, All-set, All-replicate}
-use Rattle.instruction_set.specs.declared.letter.Letter.{Letter}
-use Rattle.label_search.specs.Template.{is_nop}
 use Rattle.virtual_cpu.specs.declared.registers.Registers.{Registers}
-use Rattle.virtual_cpu.specs.declared.heads.Head.{Head}
-use Rattle.virtual_cpu.specs.declared.heads.Head.TheVariants.{Ip, Read, Write}
 use Rattle.virtual_cpu.specs.declared.heads.Heads.{Heads}
-use Rattle.virtual_cpu.specs.Stack.{pushed, popped}
-use Rattle.virtual_cpu.specs.Machine.{Machine, IsMachine, fresh_machine, place_after, place_of_number, with_ip_marked, with_head_at, with_flow_at, with_ip_advanced}
-use Rattle.virtual_cpu.specs.Operands.{modifier_of, on_next_place, on_modifier, on_modifier_of, template_of, on_template, on_last_of}
-use Rattle.virtual_cpu.specs.RegisterEffects.{skipping_if, active_stack, with_active_stack, with_picked}
 
 -- a machine at its start on a text
 pub fresh : (text : List Letter) (birth_length limit : ℕ) → 8 ≤ length text → length text ≤ limit

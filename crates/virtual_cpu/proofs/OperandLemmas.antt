@@ -1,25 +1,11 @@
 -- Each letter takes the operand of its row.
 use Rattle.std.proofs.Common.{◌≡◌, refl, pos, ◌+◌, ◌%◌, ◌+ℤ◌, Bool, true, false, cond, length}
 use Rattle.std.specs.Prelude.{int_lt}
-use Rattle.std.specs.Int.{w32, int_wrapping_add, int_wrapping_sub, int_shl, int_shr}
+use Rattle.virtual_cpu.proofs.Prelude.{w32, int_wrapping_add, int_wrapping_sub, int_shl, int_shr, Letter, NopA, NopB, NopC, IfNEqu, IfLess, IfLabel, MovHead, JmpHead, GetHead, SetFlow, ShiftR, ShiftL, Inc, Dec, Push, Pop, SwapStk, Swap, Add, Sub, Nand, HCopy, HAlloc, HDivide, Io, HSearch, complements_of, Bx, Cx, register_after, value_of, head_place, pushed, popped, top_of, Machine, place_of_number, with_head_at, with_flow_at, with_value, skipping_if, active_stack, with_active_stack, nand_of, after_if_n_equ, after_if_less, after_set_flow, after_shift_r, after_shift_l, after_inc, after_dec, after_push, after_pop, after_swap_stk, after_swap, after_add, after_sub, after_nand, after_io, output_of, after_mov_head, after_jmp_head, after_get_head, after_if_label, after_h_search, with_search_for, after_h_copy, can_allocate, with_allocation, telling, going_on, moving, allocating_if}
 use Rattle.std.specs.Ordering.{int_eq}
-use Rattle.instruction_set.specs.declared.letter.Letter.{Letter}
-use Rattle.instruction_set.specs.declared.letter.Letter.TheVariants.{NopA, NopB, NopC, IfNEqu, IfLess, IfLabel, MovHead, JmpHead, GetHead, SetFlow, ShiftR, ShiftL, Inc, Dec, Push, Pop, SwapStk, Swap, Add, Sub, Nand, HCopy, HAlloc, HDivide, Io, HSearch}
 use Rattle.instruction_set.specs.Letter.{class_of, same_letters}
 use Rattle.instruction_set.specs.Defaults.{default_of}
-use Rattle.label_search.specs.Template.{complements_of}
-use Rattle.virtual_cpu.specs.declared.registers.Register.TheVariants.{Bx, Cx}
 use Rattle.virtual_cpu.specs.declared.step_answer.StepAnswer.TheVariants.{Output}
-use Rattle.virtual_cpu.specs.Registers.{register_after, value_of}
-use Rattle.virtual_cpu.specs.Heads.{head_place}
-use Rattle.virtual_cpu.specs.Stack.{pushed, popped, top_of}
-use Rattle.virtual_cpu.specs.Machine.{Machine, place_of_number, with_head_at, with_flow_at, with_value}
-use Rattle.virtual_cpu.specs.RegisterEffects.{skipping_if, active_stack, with_active_stack, nand_of, after_if_n_equ, after_if_less, after_set_flow, after_shift_r, after_shift_l, after_inc, after_dec, after_push, after_pop, after_swap_stk, after_swap, after_add, after_sub, after_nand, after_io, output_of}
-use Rattle.virtual_cpu.specs.HeadEffects.{after_mov_head, after_jmp_head, after_get_head}
-use Rattle.virtual_cpu.specs.TemplateEffects.{after_if_label, after_h_search, with_search_for}
-use Rattle.virtual_cpu.specs.Copying.{after_h_copy}
-use Rattle.virtual_cpu.specs.Allocation.{can_allocate, with_allocation}
-use Rattle.virtual_cpu.specs.Effects.{telling, going_on, moving, allocating_if}
 use Rattle.virtual_cpu.specs.OperandUse.{TakesOperand}
 
 -- after h-alloc IP is one place further in the memory there is then, grown or not

@@ -1,15 +1,6 @@
 -- The question of a divide is the machine's.
 use Rattle.std.proofs.Common.{◌≡◌, refl, ℤ, Bool, true, false, Option}
-use Rattle.instruction_set.specs.declared.letter.Letter.{Letter}
-use Rattle.instruction_set.specs.declared.letter.Letter.TheVariants.{MovHead, HAlloc, HDivide}
-use Rattle.virtual_cpu.specs.declared.heads.Head.{Head}
-use Rattle.virtual_cpu.specs.declared.heads.Head.TheVariants.{Ip, Read, Write}
-use Rattle.virtual_cpu.specs.Machine.{Machine, with_ip_advanced}
-use Rattle.virtual_cpu.specs.HeadEffects.{head, after_mov_head}
-use Rattle.virtual_cpu.specs.Allocation.{can_allocate}
-use Rattle.virtual_cpu.specs.Divide.{divide_question}
-use Rattle.virtual_cpu.specs.Effects.{moving, allocating_if, effect_of}
-use Rattle.virtual_cpu.specs.Step.{AsksOf}
+use Rattle.virtual_cpu.proofs.Prelude.{Letter, MovHead, HAlloc, HDivide, Head, Ip, Read, Write, Machine, with_ip_advanced, head, after_mov_head, can_allocate, divide_question, moving, allocating_if, effect_of, AsksOf}
 
 -- the advance leaves the question
 asked : (m : Machine) → divide_question m ≡ divide_question (with_ip_advanced m)

@@ -1,13 +1,8 @@
 -- What sites hold, as they are made, marked, written and read.
 use Rattle.std.proofs.Common.{arith, refl, sym, ap, ◌≡◌, ◌∙◌, ℕ, zero, suc, ◌+◌, ◌<◌, ◌≤◌, List, [], ◌∷◌, ◌++◌, Bool, true, false, cond, length, map, replicate, take, drop, get_or, set}
 use Rattle.std.specs.Prelude.{count_by}
-use Rattle.std.proofs.lemmas.List.{length-map, map-append, map-set, map_push, take_more, take_all, take-map, drop-map, get_or-map, set-get_or}
+use Rattle.virtual_cpu.proofs.Prelude.{length-map, map-append, map-set, map_push, take_more, take_all, take-map, drop-map, get_or-map, set-get_or, Letter, NopA, Site, letters_of, count_of, SiteLists, clean_of, executed_of, copied_of, fresh_site, fresh_lists, with_places, with_copy, lists_in}
 use Rattle.std.proofs.lemmas.List.Sums.{sum_by-cons}
-use Rattle.instruction_set.specs.declared.letter.Letter.{Letter}
-use Rattle.instruction_set.specs.declared.letter.Letter.TheVariants.{NopA}
-use Rattle.label_search.specs.Site.{Site, letters_of}
-use Rattle.virtual_cpu.specs.Divide.{count_of}
-use Rattle.virtual_cpu.specs.SiteLists.{SiteLists, clean_of, executed_of, copied_of, fresh_site, fresh_lists, with_places, with_copy, lists_in}
 
 -- there are as many sites as letters
 pub length-seen : (sites : List Site) (room : ℕ) (lists : SiteLists) → lists_in sites room ≡ lists

@@ -1,19 +1,7 @@
 -- What no step changes.
 use Rattle.std.proofs.Common.{◌≡◌, ℕ, ℤ, Option, Some, None, List, [], ◌∷◌, Bool, true, false, refl, sym, ◌∙◌, ap, subst, Bool}
-use Rattle.instruction_set.specs.declared.letter.Letter.{Letter}
-use Rattle.instruction_set.specs.declared.letter.Letter.TheVariants.{NopA, NopB, NopC, IfNEqu, IfLess, IfLabel, MovHead, SwapStk, HCopy, HAlloc, HDivide, HSearch}
-use Rattle.virtual_cpu.specs.declared.heads.Head.{Head}
-use Rattle.virtual_cpu.specs.declared.heads.Head.TheVariants.{Ip, Read, Write}
+use Rattle.virtual_cpu.proofs.Prelude.{Letter, NopA, NopB, NopC, IfNEqu, IfLess, IfLabel, MovHead, SwapStk, HCopy, HAlloc, HDivide, HSearch, Head, Ip, Read, Write, Machine, with_ip_marked, modifier_of, on_modifier, on_modifier_of, template_of, on_template, on_last_of, skipping_if, after_if_n_equ, after_if_less, after_set_flow, after_shift_r, after_shift_l, after_inc, after_dec, after_push, after_pop, after_swap_stk, after_swap, after_add, after_sub, after_nand, after_io, head, after_mov_head, after_jmp_head, after_get_head, after_if_label, after_h_search, with_match, with_search_for, after_h_copy, can_allocate, with_allocation, moving, allocating_if, effect_of, KeepsLimits}
 use Rattle.virtual_cpu.specs.declared.step_answer.StepAnswer.{StepAnswer}
-use Rattle.virtual_cpu.specs.Machine.{Machine, with_ip_marked}
-use Rattle.virtual_cpu.specs.Operands.{modifier_of, on_modifier, on_modifier_of, template_of, on_template, on_last_of}
-use Rattle.virtual_cpu.specs.RegisterEffects.{skipping_if, after_if_n_equ, after_if_less, after_set_flow, after_shift_r, after_shift_l, after_inc, after_dec, after_push, after_pop, after_swap_stk, after_swap, after_add, after_sub, after_nand, after_io}
-use Rattle.virtual_cpu.specs.HeadEffects.{head, after_mov_head, after_jmp_head, after_get_head}
-use Rattle.virtual_cpu.specs.TemplateEffects.{after_if_label, after_h_search, with_match, with_search_for}
-use Rattle.virtual_cpu.specs.Copying.{after_h_copy}
-use Rattle.virtual_cpu.specs.Allocation.{can_allocate, with_allocation}
-use Rattle.virtual_cpu.specs.Effects.{moving, allocating_if, effect_of}
-use Rattle.virtual_cpu.specs.Step.{KeepsLimits}
 
 -- a machine that doesn't change keeps its limits
 same : (m : Machine) → KeepsLimits m m

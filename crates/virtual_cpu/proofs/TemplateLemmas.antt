@@ -1,9 +1,7 @@
 -- IP on the last nop of a template.
 use Rattle.std.proofs.Common.{◌≡◌, ◌≢◌, ◌∙◌, sym, ap, refl, ℕ, ◌+◌, ◌%◌, ◌<◌, List, [], ◌∷◌, Bool, true, length, set, arith}
+use Rattle.virtual_cpu.proofs.Prelude.{Letter, Machine, place_after, template_of, on_template, on_last_of}
 use Rattle.std.proofs.Math.Nat.{mod-add-mod}
-use Rattle.instruction_set.specs.declared.letter.Letter.{Letter}
-use Rattle.virtual_cpu.specs.Machine.{Machine, place_after}
-use Rattle.virtual_cpu.specs.Operands.{template_of, on_template, on_last_of}
 
 -- a list that is not empty has letters
 pub some-nop : (nops : List Letter) → nops ≢ [] → 0 < length nops

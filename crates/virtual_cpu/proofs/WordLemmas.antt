@@ -1,35 +1,15 @@
 -- The numbers of a machine keep their 32 bits.
 use Rattle.std.proofs.Common.{◌≡◌, refl, ℕ, ℤ, zero, suc, pos, ◌+◌, ◌-◌, ◌<◌, ◌≤◌, Bool, true, false, inl, inr, Option, Some, None, List, [], ◌∷◌, length, take, drop, replicate, All, arith, length-take, map}
 use Rattle.std.specs.Prelude.{FitsSigned, find, ◌-ℤ◌}
+use Rattle.virtual_cpu.proofs.Prelude.{length-map, w32, cast_signed, int_shr, All-nil, All-cons, All-append, All-set, All-drop, All-take, All-replicate, Letter, NopA, NopB, NopC, IfNEqu, IfLess, IfLabel, MovHead, JmpHead, GetHead, SetFlow, ShiftR, Push, Pop, SwapStk, Swap, HCopy, HAlloc, HDivide, Io, HSearch, is_nop, complements_of, letter_after, template_after, Ax, Bx, Cx, Head, Ip, Read, Write, value_of, head_place, pushed, popped, top_of, Machine, IsMachine, fresh_machine, with_head_at, with_value, modifier_of, on_modifier, on_modifier_of, template_of, on_template, on_last_of, picked, value, next, skipping_if, active_stack, with_active_stack, with_picked, after_if_n_equ, after_if_less, after_set_flow, after_shift_r, after_shift_l, after_inc, after_dec, after_push, after_pop, after_swap_stk, after_swap, after_add, after_sub, after_nand, after_io, head, after_mov_head, after_jmp_head, after_get_head, after_if_label, after_h_search, with_search, with_match, with_search_for, after_h_copy, can_allocate, with_allocation, going_on, moving, allocating_if, effect_of, HoldsWords}
 use Rattle.std.specs.List.{range_with_len, take_while, prefix_len}
 use Rattle.std.proofs.lemmas.Bool.{cases_Bool}
 use Rattle.std.proofs.lemmas.Int.{ints}
-use Rattle.std.proofs.lemmas.List.{length-map}
 use Rattle.std.proofs.lemmas.List.FromFn.{length-range_with_len}
-use Rattle.std.specs.Int.{w32, cast_signed, int_shr}
 use Rattle.std.specs.Int.Signed.{mag_shr}
 use borrow.Author.Differences.{fits_in, read_fits}
-use Rattle.std.proofs.lemmas.List.Elements.{All-nil, All-cons, All-append, All-set, All-drop, All-take, All-replicate}
-use Rattle.instruction_set.specs.declared.letter.Letter.{Letter}
-use Rattle.instruction_set.specs.declared.letter.Letter.TheVariants.{NopA, NopB, NopC, IfNEqu, IfLess, IfLabel, MovHead, JmpHead, GetHead, SetFlow, ShiftR, Push, Pop, SwapStk, Swap, HCopy, HAlloc, HDivide, Io, HSearch}
-use Rattle.label_search.specs.Template.{is_nop, complements_of, letter_after, template_after}
 use Rattle.label_search.specs.Search.{first_match, occurs_at}
 use Rattle.virtual_cpu.specs.declared.registers.Register.{Register}
-use Rattle.virtual_cpu.specs.declared.registers.Register.TheVariants.{Ax, Bx, Cx}
-use Rattle.virtual_cpu.specs.declared.heads.Head.{Head}
-use Rattle.virtual_cpu.specs.declared.heads.Head.TheVariants.{Ip, Read, Write}
-use Rattle.virtual_cpu.specs.Registers.{value_of}
-use Rattle.virtual_cpu.specs.Heads.{head_place}
-use Rattle.virtual_cpu.specs.Stack.{pushed, popped, top_of}
-use Rattle.virtual_cpu.specs.Machine.{Machine, IsMachine, fresh_machine, with_head_at, with_value}
-use Rattle.virtual_cpu.specs.Operands.{modifier_of, on_modifier, on_modifier_of, template_of, on_template, on_last_of}
-use Rattle.virtual_cpu.specs.RegisterEffects.{picked, value, next, skipping_if, active_stack, with_active_stack, with_picked, after_if_n_equ, after_if_less, after_set_flow, after_shift_r, after_shift_l, after_inc, after_dec, after_push, after_pop, after_swap_stk, after_swap, after_add, after_sub, after_nand, after_io}
-use Rattle.virtual_cpu.specs.HeadEffects.{head, after_mov_head, after_jmp_head, after_get_head}
-use Rattle.virtual_cpu.specs.TemplateEffects.{after_if_label, after_h_search, with_search, with_match, with_search_for}
-use Rattle.virtual_cpu.specs.Copying.{after_h_copy}
-use Rattle.virtual_cpu.specs.Allocation.{can_allocate, with_allocation}
-use Rattle.virtual_cpu.specs.Effects.{going_on, moving, allocating_if, effect_of}
-use Rattle.virtual_cpu.specs.Words.{HoldsWords}
 use Rattle.virtual_cpu.proofs.MachineLemmas.{on_modifier-machine, on_template-machine, active-ten}
 
 -- a signed number of 32 bits

@@ -1,18 +1,14 @@
 -- What each letter does and answers: one row a letter (docs/MACHINE.md, "The instruction table").
 use Rattle.std.specs.Prelude.{ℤ, Bool, true, false, Option}
-use Rattle.instruction_set.specs.declared.letter.Letter.{Letter}
-use Rattle.instruction_set.specs.declared.letter.Letter.TheVariants.{NopA, NopB, NopC, IfNEqu, IfLess, IfLabel, MovHead, JmpHead, GetHead, SetFlow, ShiftR, ShiftL, Inc, Dec, Push, Pop, SwapStk, Swap, Add, Sub, Nand, HCopy, HAlloc, HDivide, Io, HSearch}
+use Rattle.virtual_cpu.specs.Prelude.{Letter, NopA, NopB, NopC, IfNEqu, IfLess, IfLabel, MovHead, JmpHead, GetHead, SetFlow, ShiftR, ShiftL, Inc, Dec, Push, Pop, SwapStk, Swap, Add, Sub, Nand, HCopy, HAlloc, HDivide, Io, HSearch}
 use Rattle.virtual_cpu.specs.declared.heads.Head.{Head}
 use Rattle.virtual_cpu.specs.declared.heads.Head.TheVariants.{Ip}
 use Rattle.virtual_cpu.specs.declared.step_answer.StepAnswer.{StepAnswer}
 use Rattle.virtual_cpu.specs.declared.step_answer.StepAnswer.TheVariants.{Plain, Copied, Output, Asks, Allocated}
 use Rattle.virtual_cpu.specs.Machine.{Machine, with_ip_advanced}
 use Rattle.virtual_cpu.specs.RegisterEffects.{after_if_n_equ, after_if_less, after_set_flow, after_shift_r, after_shift_l, after_inc, after_dec, after_push, after_pop, after_swap_stk, after_swap, after_add, after_sub, after_nand, after_io, output_of}
-use Rattle.virtual_cpu.specs.HeadEffects.{head, after_mov_head, after_jmp_head, after_get_head}
-use Rattle.virtual_cpu.specs.TemplateEffects.{after_if_label, after_h_search}
-use Rattle.virtual_cpu.specs.Copying.{after_h_copy}
-use Rattle.virtual_cpu.specs.Allocation.{can_allocate, with_allocation}
-use Rattle.virtual_cpu.specs.Divide.{divide_question}
+use Rattle.virtual_cpu.specs.HeadEffects.{head, after_mov_head, after_jmp_head, after_get_head, after_if_label, after_h_search}
+use Rattle.virtual_cpu.specs.Replication.{after_h_copy, can_allocate, with_allocation, divide_question}
 
 -- IP advances, with an answer
 abbrev pub telling : StepAnswer → Machine → Machine × StepAnswer

@@ -1,16 +1,12 @@
 -- The machine, as contracts see it (docs/MACHINE.md, "The machine").
 use Rattle.std.specs.Prelude.{◌≡◌, ℕ, ℤ, pos, ◌+◌, ◌*◌, ◌<◌, ◌≤◌, ◌%◌, Bool, true, false, All, List, [], length, replicate, slice_index_or, slice_set, unsigned_abs, if◌then◌else◌}
-use Rattle.std.specs.Int.{int_rem_euclid}
-use Rattle.instruction_set.specs.declared.letter.Letter.{Letter}
-use Rattle.instruction_set.specs.declared.letter.Letter.TheVariants.{NopA}
+use Rattle.virtual_cpu.specs.Prelude.{int_rem_euclid, Letter, NopA, IsTemplate}
 use Rattle.virtual_cpu.specs.declared.registers.Register.{Register}
 use Rattle.virtual_cpu.specs.declared.registers.Registers.{Registers}
 use Rattle.virtual_cpu.specs.declared.heads.Head.{Head}
 use Rattle.virtual_cpu.specs.declared.heads.Head.TheVariants.{Ip}
 use Rattle.virtual_cpu.specs.declared.heads.Heads.{Heads}
-use Rattle.label_search.specs.Template.{IsTemplate}
-use Rattle.virtual_cpu.specs.Registers.{with_register}
-use Rattle.virtual_cpu.specs.Heads.{with_head}
+use Rattle.virtual_cpu.specs.Parts.{with_register, with_head}
 
 -- a machine; a set of places is a list that tells for each place whether it is in the set
 pub record Machine : Type 0 where

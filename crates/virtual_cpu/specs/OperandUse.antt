@@ -1,9 +1,8 @@
 -- Which operand letters take (docs/MACHINE.md, "The instruction table", "Modifiers", "Templates").
 use Rattle.std.specs.Prelude.{◌≡◌, ℤ, ◌+◌, ◌%◌, List, Option, length}
-use Rattle.instruction_set.specs.declared.letter.Letter.{Letter}
+use Rattle.virtual_cpu.specs.Prelude.{Letter, Default, NoDefault, RegisterBx, RegisterCx, HeadIp}
 use Rattle.instruction_set.specs.declared.letter.Class.{Class}
 use Rattle.instruction_set.specs.declared.letter.Class.TheVariants.{Template}
-use Rattle.instruction_set.specs.Defaults.{Default, NoDefault, RegisterBx, RegisterCx, HeadIp}
 use Rattle.virtual_cpu.specs.declared.registers.Register.{Register}
 use Rattle.virtual_cpu.specs.declared.registers.Register.TheVariants.{Bx, Cx}
 use Rattle.virtual_cpu.specs.declared.heads.Head.{Head}

@@ -1,12 +1,10 @@
 -- Modifiers and templates (docs/MACHINE.md, "Modifiers", "Templates").
 use Rattle.std.specs.Prelude.{◌+◌, ◌%◌, Option, Some, None, List, [], ◌∷◌, length}
-use Rattle.instruction_set.specs.declared.letter.Letter.{Letter}
-use Rattle.instruction_set.specs.declared.letter.Letter.TheVariants.{NopA, NopB, NopC}
+use Rattle.virtual_cpu.specs.Prelude.{Letter, NopA, NopB, NopC, template_after}
 use Rattle.virtual_cpu.specs.declared.registers.Register.{Register}
 use Rattle.virtual_cpu.specs.declared.registers.Register.TheVariants.{Ax, Bx, Cx}
 use Rattle.virtual_cpu.specs.declared.heads.Head.{Head}
 use Rattle.virtual_cpu.specs.declared.heads.Head.TheVariants.{Ip, Read, Write}
-use Rattle.label_search.specs.Template.{template_after}
 use Rattle.virtual_cpu.specs.Machine.{Machine, letter_in_memory, place_after, with_ip_marked, with_ip_advanced, with_head_at}
 
 -- the letter where it is a nop

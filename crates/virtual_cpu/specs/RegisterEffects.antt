@@ -1,11 +1,10 @@
 -- What instructions on registers do before IP advances (docs/MACHINE.md, "The instruction table").
 use Rattle.std.specs.Prelude.{bit_and, ℤ, pos, ◌-◌, Bool, true, false, List, [], slice_index_or, slice_set, int_lt, if◌then◌else◌}
-use Rattle.std.specs.Int.{w32, int_wrapping_add, int_wrapping_sub, int_shl, int_shr, cast_signed, cast_unsigned, bit_not}
+use Rattle.virtual_cpu.specs.Prelude.{w32, int_wrapping_add, int_wrapping_sub, int_shl, int_shr, cast_signed, cast_unsigned, bit_not}
 use Rattle.std.specs.Ordering.{int_eq}
 use Rattle.virtual_cpu.specs.declared.registers.Register.{Register}
 use Rattle.virtual_cpu.specs.declared.registers.Register.TheVariants.{Bx, Cx}
-use Rattle.virtual_cpu.specs.Registers.{register_after, value_of}
-use Rattle.virtual_cpu.specs.Stack.{pushed, popped, top_of}
+use Rattle.virtual_cpu.specs.Parts.{register_after, value_of, pushed, popped, top_of}
 use Rattle.virtual_cpu.specs.Machine.{Machine, place_of_number, with_flow_at, with_ip_advanced, with_value}
 use Rattle.virtual_cpu.specs.Operands.{register_picked, on_modifier}
 

@@ -1,8 +1,6 @@
 -- What the places of memory hold (docs/MACHINE.md, "The machine").
 use Rattle.std.specs.Prelude.{ℕ, ◌++◌, Bool, true, false, List, length, map, replicate, slice_set}
-use Rattle.instruction_set.specs.declared.letter.Letter.{Letter}
-use Rattle.instruction_set.specs.declared.letter.Letter.TheVariants.{NopA}
-use Rattle.label_search.specs.Site.{Site, letters_of}
+use Rattle.virtual_cpu.specs.Prelude.{Letter, NopA, Site, letters_of}
 
 -- a list for each thing that a place holds, and how many places there is room for
 pub record SiteLists : Type 0 where

@@ -1,11 +1,11 @@
 -- One step of the machine (docs/MACHINE.md, "One step").
 use Rattle.std.specs.Prelude.{◌≡◌, ℤ, Option}
-use Rattle.instruction_set.specs.declared.letter.Letter.{Letter}
+use Rattle.virtual_cpu.specs.Prelude.{Letter}
 use Rattle.virtual_cpu.specs.declared.step_answer.StepAnswer.{StepAnswer}
 use Rattle.virtual_cpu.specs.declared.step_answer.StepAnswer.TheVariants.{Plain, Copied, Output, Asks, Allocated}
 use Rattle.virtual_cpu.specs.Machine.{Machine, letter_under_ip, with_ip_marked}
 use Rattle.virtual_cpu.specs.Effects.{effect_of}
-use Rattle.virtual_cpu.specs.Divide.{divide_question}
+use Rattle.virtual_cpu.specs.Replication.{divide_question}
 
 -- the place of IP is marked, and the letter there has its effect
 unfoldable pub step : Machine → ℤ → Option Letter → Machine × StepAnswer

@@ -1,16 +1,11 @@
 // The machine: its parts, and the few ways in which an instruction changes them.
 ghost use Rattle.std.specs.Prelude.{◌≡◌, ◌-◌, ◌*◌, ◌<◌, ◌≤◌, IfOk, OnErr, OnOk, [], ◌∷◌, length, true, false};
-ghost use Rattle.instruction_set.specs.declared.letter.Letter.{Letter};
-ghost use Rattle.genome.specs.Genome.{letters};
-ghost use Rattle.virtual_cpu.specs.Registers.{value_of};
-ghost use Rattle.virtual_cpu.specs.Heads.{head_place};
-ghost use Rattle.virtual_cpu.specs.Stack.{pushed, popped, top_of};
+ghost use Rattle.virtual_cpu.specs.Prelude.{Letter, letters};
+ghost use Rattle.virtual_cpu.specs.Parts.{value_of, head_place, pushed, popped, top_of};
 ghost use Rattle.virtual_cpu.specs.Machine.{letter_in_memory, IsMachine, fresh_machine, letter_under_ip, place_after, place_of_number, with_ip_marked, with_ip_advanced, with_head_at, with_flow_at, with_value};
-ghost use Rattle.virtual_cpu.specs.Image.{image_of, machine_of_image};
+ghost use Rattle.virtual_cpu.specs.View.{image_of, machine_of_image};
 ghost use Rattle.virtual_cpu.specs.RegisterEffects.{active_stack, with_active_stack};
-ghost use Rattle.virtual_cpu.specs.Copying.{after_h_copy};
-ghost use Rattle.virtual_cpu.specs.Allocation.{can_allocate, with_allocation};
-ghost use Rattle.virtual_cpu.specs.Divide.{parent_part};
+ghost use Rattle.virtual_cpu.specs.Replication.{after_h_copy, can_allocate, with_allocation, parent_part};
 
 use crate::cpu_image::{CpuImage, Letters, Marks};
 use crate::heads::{Head, Heads};
@@ -373,7 +368,7 @@ impl Cpu {
 
     /// Copies the letter at READ, or the letter of a copy error, to WRITE.
     #[inline(always)]
-    #[tactic(auto, unfolding(crate::specs::Copying::after_h_copy))]
+    #[tactic(auto, unfolding(crate::specs::Replication::after_h_copy))]
     pub(crate) fn copy_letter(&mut self, copy: Option<Letter>)
         ensures { self.new ≡ after_h_copy self.old copy }
     {
@@ -394,7 +389,7 @@ impl Cpu {
     }
 
     #[inline(never)]
-    #[tactic(auto, unfolding(crate::specs::Allocation::with_allocation))]
+    #[tactic(auto, unfolding(crate::specs::Replication::with_allocation))]
     pub(crate) fn allocate(&mut self)
         requires { can_allocate self.old ≡ true }
         ensures { self.new ≡ with_allocation self.old }

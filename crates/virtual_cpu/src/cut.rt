@@ -1,7 +1,7 @@
 // What a divide asks, and the two texts that it gives.
 ghost use Rattle.std.specs.Prelude.{◌≡◌, ◌-◌, ◌≤◌, IfOk, length};
-ghost use Rattle.genome.specs.Genome.{letters};
-ghost use Rattle.virtual_cpu.specs.Divide.{divide_question, child_part};
+ghost use Rattle.virtual_cpu.specs.Prelude.{letters};
+ghost use Rattle.virtual_cpu.specs.Replication.{divide_question, child_part};
 
 use crate::cpu::Cpu;
 use avida_port::Memory;
@@ -35,7 +35,7 @@ impl Cpu {
     }
 
     /// What a divide asks of the rules.
-    #[tactic(auto, unfolding(crate::specs::Divide::divide_question))]
+    #[tactic(auto, unfolding(crate::specs::Replication::divide_question))]
     pub(crate) fn question(&self) -> DivideAsk
         ensures { result ≡ divide_question self.now }
     {

@@ -1,6 +1,6 @@
 ghost use Rattle.std.specs.Prelude.{◌≡◌};
-ghost use Rattle.virtual_cpu.specs.Image.{heads_of};
-ghost use Rattle.virtual_cpu.specs.Heads.{head_place, with_head};
+ghost use Rattle.virtual_cpu.specs.View.{heads_of};
+ghost use Rattle.virtual_cpu.specs.Parts.{head_place, with_head};
 
 /// One of the heads that a modifier picks.
 #[derive(Clone, Copy)]

@@ -1,14 +1,11 @@
 // The instructions: one method a letter, and the step that picks it.
 ghost use Rattle.std.specs.Prelude.{◌≡◌, ◌<◌, ◌≤◌, length};
-ghost use Rattle.virtual_cpu.specs.Allocation.{can_allocate};
-ghost use Rattle.virtual_cpu.specs.Copying.{after_h_copy};
-ghost use Rattle.virtual_cpu.specs.Divide.{divide_question};
+ghost use Rattle.virtual_cpu.specs.Replication.{can_allocate, after_h_copy, divide_question};
 ghost use Rattle.virtual_cpu.specs.Effects.{telling, going_on, moving, allocating_if, effect_of};
 ghost use Rattle.virtual_cpu.specs.Machine.{letter_under_ip, with_ip_advanced, with_ip_marked};
-ghost use Rattle.virtual_cpu.specs.HeadEffects.{head, after_mov_head, after_jmp_head, after_get_head};
+ghost use Rattle.virtual_cpu.specs.HeadEffects.{head, after_mov_head, after_jmp_head, after_get_head, after_if_label, after_h_search, with_search};
 ghost use Rattle.virtual_cpu.specs.RegisterEffects.{after_if_n_equ, after_if_less, after_set_flow, after_shift_r, after_shift_l, after_inc, after_dec, after_push, after_pop, after_swap_stk, after_swap, after_add, after_sub, after_nand, after_io, output_of};
 ghost use Rattle.virtual_cpu.specs.Step.{step, AsksOf, KeepsLimits};
-ghost use Rattle.virtual_cpu.specs.TemplateEffects.{after_if_label, after_h_search, with_search};
 ghost use Rattle.virtual_cpu.specs.declared.step_answer.StepAnswer.TheVariants.{Copied, Output, Asks};
 
 use crate::cpu::Cpu;
@@ -48,7 +45,7 @@ impl Cpu {
     }
 
     #[inline(never)]
-    #[tactic(auto, unfolding(crate::specs::TemplateEffects::after_if_label))]
+    #[tactic(auto, unfolding(crate::specs::HeadEffects::after_if_label))]
     fn if_label(&mut self)
         ensures { self.new ≡ with_ip_advanced (after_if_label self.old) }
     {
@@ -235,7 +232,7 @@ impl Cpu {
         StepAnswer::Allocated
     }
 
-    #[tactic(auto, unfolding(crate::specs::Divide::divide_question))]
+    #[tactic(auto, unfolding(crate::specs::Replication::divide_question))]
     fn h_divide(&mut self) -> StepAnswer
         ensures told { (self.new, result) ≡ telling (Asks (divide_question self.old)) self.old }
         ensures question { AsksOf self.new result }
@@ -259,7 +256,7 @@ impl Cpu {
     }
 
     #[inline(never)]
-    #[tactic(auto, unfolding(crate::specs::TemplateEffects::after_h_search))]
+    #[tactic(auto, unfolding(crate::specs::HeadEffects::after_h_search))]
     fn h_search(&mut self)
         ensures { self.new ≡ with_ip_advanced (after_h_search self.old) }
     {

@@ -1,16 +1,11 @@
 // What each step leaves, and what each letter takes.
 ghost use Rattle.std.specs.Prelude.{◌≡◌, ◌≢◌, ℕ, ℤ, ◌*◌, ◌≤◌, Option, List, length, FitsSigned};
-ghost use Rattle.std.specs.Int.{w32};
-ghost use Rattle.instruction_set.specs.declared.letter.Letter.{Letter};
-ghost use Rattle.instruction_set.specs.declared.letter.Letter.TheVariants.{HDivide, Io};
-ghost use Rattle.instruction_set.specs.Letter.{class_of};
-ghost use Rattle.instruction_set.specs.Defaults.{default_of};
+ghost use Rattle.virtual_cpu.specs.Prelude.{w32, Letter, HDivide, Io, class_of, default_of};
 ghost use Rattle.virtual_cpu.specs.Effects.{effect_of};
-ghost use Rattle.virtual_cpu.specs.Image.{image_of, machine_of_image};
+ghost use Rattle.virtual_cpu.specs.View.{image_of, machine_of_image, HoldsWords};
 ghost use Rattle.virtual_cpu.specs.Machine.{Machine, IsMachine, fresh_machine};
 ghost use Rattle.virtual_cpu.specs.OperandUse.{TakesOperand};
 ghost use Rattle.virtual_cpu.specs.Step.{step, AsksOf, KeepsLimits, TellsNothing};
-ghost use Rattle.virtual_cpu.specs.Words.{HoldsWords};
 
 /// A step leaves a machine, for the same length of genome and under the same limit; a question that
 /// it tells is of that machine.

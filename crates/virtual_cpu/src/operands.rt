@@ -1,9 +1,7 @@
 // The operands of instructions: a modifier picks a register or a head, and a template says what to
 // look for.
 ghost use Rattle.std.specs.Prelude.{◌≡◌, ◌+◌, ◌<◌, ◌≤◌, IfSome, length};
-ghost use Rattle.instruction_set.specs.Letter.{same_letters};
-ghost use Rattle.label_search.specs.Search.{first_match};
-ghost use Rattle.label_search.specs.Template.{complements_of};
+ghost use Rattle.virtual_cpu.specs.Prelude.{same_letters, first_match, complements_of};
 ghost use Rattle.virtual_cpu.specs.Machine.{letter_in_memory, place_after};
 ghost use Rattle.virtual_cpu.specs.Operands.{on_modifier, register_picked, head_picked, template_of, on_template};
 

@@ -1,6 +1,6 @@
 // Places of memory, which go on across its end.
 ghost use Rattle.std.specs.Prelude.{◌≡◌, ◌+◌, ◌<◌, ◌≤◌, ◌%◌, length, pos, unsigned_abs};
-ghost use Rattle.std.specs.Int.{int_rem_euclid};
+ghost use Rattle.virtual_cpu.specs.Prelude.{int_rem_euclid};
 
 /// The place after another, across the end to place 0.
 #[inline(always)]

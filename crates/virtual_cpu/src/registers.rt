@@ -1,6 +1,6 @@
 ghost use Rattle.std.specs.Prelude.{◌≡◌};
-ghost use Rattle.virtual_cpu.specs.Image.{registers_of};
-ghost use Rattle.virtual_cpu.specs.Registers.{register_after, value_of, with_register};
+ghost use Rattle.virtual_cpu.specs.View.{registers_of};
+ghost use Rattle.virtual_cpu.specs.Parts.{register_after, value_of, with_register};
 
 /// One of the three registers.
 #[derive(Clone, Copy)]

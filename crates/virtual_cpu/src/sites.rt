@@ -1,8 +1,7 @@
 // The places of memory, in one list.
 ghost use Rattle.std.specs.Prelude.{◌≡◌, ◌+◌, ◌-◌, ◌<◌, ◌≤◌, ◌++◌, true, length, map, slice_set, slice_index_or, IfOk, vec_capacity};
-ghost use Rattle.instruction_set.specs.declared.letter.Letter.TheVariants.{NopA};
-ghost use Rattle.label_search.specs.Site.{letters_of};
-ghost use Rattle.virtual_cpu.specs.Divide.{count_of, parent_part, child_part};
+ghost use Rattle.virtual_cpu.specs.Prelude.{NopA, letters_of};
+ghost use Rattle.virtual_cpu.specs.Replication.{count_of, parent_part, child_part};
 ghost use Rattle.virtual_cpu.specs.SiteLists.{clean_of, executed_of, copied_of, letter_by, fresh_site, fresh_lists, with_places, with_copy};
 
 use crate::reserved::append_copies;

@@ -1,5 +1,5 @@
 ghost use Rattle.std.specs.Prelude.{◌≡◌, ℤ, pos, List, replicate};
-ghost use Rattle.virtual_cpu.specs.Stack.{pushed, popped, top_of};
+ghost use Rattle.virtual_cpu.specs.Parts.{pushed, popped, top_of};
 
 use std::marker::Model;
 

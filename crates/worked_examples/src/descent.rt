@@ -1,7 +1,6 @@
 // Who is kept of a line of descent (docs/WORLD.md, "Lines of descent").
 ghost use Rattle.std.specs.Prelude.{◌≡◌, [], ◌∷◌, None, Some, map};
-ghost use Rattle.lineage_log.specs.Ancestry.{kept_of};
-ghost use Rattle.lineage_log.specs.Links.{Link};
+ghost use Rattle.lineage_log.specs.Ancestry.{kept_of, Link};
 
 /// The founder 0 bears 1 and 2.
 #[tactic(auto, unfolding(lineage_log::specs::Ancestry::kept_of))]

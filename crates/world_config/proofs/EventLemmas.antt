@@ -1,29 +1,9 @@
 -- Events that were read keep to the configuration's bounds.
-use Rattle.std.proofs.Common.{◌≡◌, ℕ, ◌+◌, ◌<◌, ◌≤◌, Bool, true, false, ◌&&◌, nat_le, List, [], ◌∷◌}
-use Rattle.std.proofs.Common.{length, codes, get_or, Option, Some, None, option_map}
-use Rattle.std.proofs.Common.{option_and_then, Result, Ok, Err, pos, negsuc, ℤ, refl, arith, cond}
-use Rattle.std.proofs.Common.{add-one, le-leb, leb-true, subst, zero, suc}
-use Rattle.std.specs.List.{AllPass}
-use Rattle.std.specs.List.Sorted.{IsNonDecreasingBy}
-use Rattle.std.specs.Str.{bytes_eq}
-use Rattle.std.proofs.lemmas.Bool.{and_parts}
+use Rattle.std.proofs.Common.{◌≡◌, ℕ, ◌+◌, ◌<◌, ◌≤◌, Bool, true, false, ◌&&◌, nat_le, List, [], ◌∷◌, length, codes, get_or, Option, Some, None, option_map, option_and_then, Result, Ok, Err, pos, negsuc, ℤ, refl, arith, cond, add-one, le-leb, leb-true, subst, zero, suc}
+use Rattle.world_config.proofs.Prelude.{AllPass, IsNonDecreasingBy, bytes_eq, and_parts, Data, string, integer, table, Items, no_items, item, Members, get_member, as_str, Letter, spelled_by_letters, RateName, Frame, AreEvents, EventValue, WhatValue, inject, clear, rate, event_fits, what_fits, rate_named, both, clear_of, event_of, events_from, events_of, followed, genome_from, inject_of, more_events, number_from, rate_of, sized, what_of, item_count}
 use Rattle.std.proofs.lemmas.Option.{cond_some}
 use Rattle.std.proofs.lemmas.List.Elements.{All-cons, All-nil}
-use Rattle.toml.specs.Data.{Data, string, integer, table, Items}
-use Rattle.toml.specs.Data.{no_items, item, Members, get_member, as_str}
-use Rattle.instruction_set.specs.declared.letter.Letter.{Letter}
 use Rattle.genome.specs.declared.stop.GenomeStop.{GenomeStop}
-use Rattle.genome.specs.GenomeText.{spelled_by_letters}
-use Rattle.mutations.specs.declared.rate_name.RateName.{RateName}
-use Rattle.world_config.specs.KeyTable.{Frame}
-use Rattle.world_config.specs.Events.{AreEvents, EventValue, WhatValue, inject, clear, rate}
-use Rattle.world_config.specs.Events.{event_fits, what_fits}
-use Rattle.mutations.specs.RateNames.{rate_named}
-use Rattle.world_config.specs.EventForms.{both, clear_of, event_of, events_from}
-use Rattle.world_config.specs.EventForms.{events_of, followed, genome_from}
-use Rattle.world_config.specs.EventForms.{inject_of, more_events, number_from}
-use Rattle.world_config.specs.EventForms.{rate_of, sized, what_of}
-use Rattle.world_config.specs.Lookup.{item_count}
 
 -- what is there under a condition is there
 only_if : {A : Type 0} (test : Bool) (o : Option A) (y : A) → cond test o None ≡ Some y → o ≡ Some y

@@ -1,14 +1,8 @@
 -- What the kind of a row accepts.
 use Rattle.std.proofs.Common.{◌≡◌, ℕ, ◌≤◌, List, length, None, Ok, pos, refl, ap, ◌∙◌, arith}
 use Rattle.std.proofs.Common.{le-leb}
-use Rattle.toml.specs.Data.{Data, string, integer, boolean, array}
-use Rattle.instruction_set.specs.declared.letter.Letter.{Letter}
-use Rattle.genome.specs.GenomeText.{spelled_by_letters}
-use Rattle.world_config.specs.declared.key.Key.{Key}
-use Rattle.world_config.specs.KeyTable.{Kind, number, flag, genome, events}
+use Rattle.world_config.proofs.Prelude.{Data, string, integer, boolean, array, Letter, spelled_by_letters, Key, Kind, number, flag, genome, events, item_count, refusal_of, unless_genome, unless_within}
 use Rattle.mutations.specs.RecordForm.{IsWithin}
-use Rattle.world_config.specs.Lookup.{item_count}
-use Rattle.world_config.specs.Refusal.{refusal_of, unless_genome, unless_within}
 
 -- a number within its bounds is not refused
 pub unless_within-none : (key : Key) (least greatest n : ℕ) → least ≤ n → n ≤ greatest

@@ -1,3 +1,4 @@
+pub mod Prelude
 pub mod UnknownLemmas
 pub mod MemberLemmas
 pub mod KindLemmas

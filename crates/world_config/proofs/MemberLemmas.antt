@@ -1,16 +1,8 @@
 -- The members of a table and of an array beside the values that they stand for.
 use Rattle.std.proofs.Common.{◌≡◌, ℕ, ◌+◌, ◌<◌, Bool, List, [], ◌∷◌, ◌++◌, map, length, drop}
 use Rattle.std.proofs.Common.{get_or, Some, None, Result, Ok, Err, string_bytes, refl, sym}
-use Rattle.std.specs.List.{list_any, list_all}
-use Rattle.std.specs.Str.{bytes_eq}
+use Rattle.world_config.proofs.Prelude.{list_any, list_all, bytes_eq, Value, view, items_view, members_view, Entry, items_view-drop, Frame, EventValue, event_of, events_from, events_of, followed, has_only, more_events}
 use Rattle.std.specs.Borrow.{Bor}
-use Rattle.toml.specs.declared.value.Value.{Value}
-use Rattle.toml.specs.View.{view, items_view, members_view}
-use Rattle.toml.proofs.Views.{Entry, items_view-drop}
-use Rattle.world_config.specs.KeyTable.{Frame}
-use Rattle.world_config.specs.Events.{EventValue}
-use Rattle.world_config.specs.EventForms.{event_of, events_from, events_of, followed, has_only}
-use Rattle.world_config.specs.EventForms.{more_events}
 
 -- a test of mapped elements is one of the list that they were mapped from
 list_any-map : {X Y : Type 0} (p : Y → Bool) (f : X → Y) (xs : List X)

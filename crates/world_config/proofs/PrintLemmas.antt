@@ -1,30 +1,9 @@
 -- A configuration that is printed is read back.
-use Rattle.std.proofs.Common.{◌≡◌, ℕ, ◌+◌, ◌-◌, ◌<◌, ◌≤◌, true, false, ◌&&◌, nat_le, nat_eq, List}
-use Rattle.std.proofs.Common.{[], ◌∷◌, length, map, drop, get_or, Option, Some, None, Ok, pos, refl}
-use Rattle.std.proofs.Common.{ap, arith, le-leb, lit≤, zero, suc, le-ltb, leb-true, ne_eqb}
-use Rattle.std.proofs.Common.{◌≢◌, add-one, codes, option_and_then}
+use Rattle.std.proofs.Common.{◌≡◌, ℕ, ◌+◌, ◌-◌, ◌<◌, ◌≤◌, true, false, ◌&&◌, nat_le, nat_eq, List, [], ◌∷◌, length, map, drop, get_or, Option, Some, None, Ok, pos, refl, ap, arith, le-leb, lit≤, zero, suc, le-ltb, leb-true, ne_eqb, ◌≢◌, add-one, codes, option_and_then}
 use Rattle.std.specs.Prelude.{filter_map, is_none}
-use Rattle.std.specs.List.{AllPass, position_from}
-use Rattle.std.specs.Cmp.Lexicographic.{pointwise}
-use Rattle.std.specs.List.Sorted.{IsNonDecreasingBy}
-use Rattle.std.proofs.lemmas.Bool.{and_parts}
-use Rattle.toml.specs.Data.{as_str, get_member, string, integer, table, depth, items_depth}
-use Rattle.instruction_set.specs.declared.letter.Letter.{Letter}
+use Rattle.world_config.proofs.Prelude.{AllPass, position_from, pointwise, IsNonDecreasingBy, and_parts, as_str, get_member, string, integer, table, depth, items_depth, Letter, byte_of, letter_of_byte, genome_of, before_line_end, letters_text_of, spelled_by_letters, RateName, Frame, AreEvents, EventValue, WhatValue, inject, clear, rate, event_fits, what_fits, name_of_rate, rate_named, both, event_of, events_from, events_of, genome_from, more_events, number_from, what_of, item_count, event_members, items_for}
 use Rattle.instruction_set.specs.declared.letter.Letter.TheVariants.{NopA}
-use Rattle.instruction_set.specs.Letter.{byte_of, letter_of_byte}
-use Rattle.genome.specs.Genome.{genome_of}
-use Rattle.genome.specs.GenomeText.{before_line_end}
-use Rattle.genome.specs.GenomeText.{letters_text_of, spelled_by_letters}
-use Rattle.mutations.specs.declared.rate_name.RateName.{RateName}
 use Rattle.mutations.specs.declared.rate_name.RateName.TheVariants.{Copy}
-use Rattle.world_config.specs.KeyTable.{Frame}
-use Rattle.world_config.specs.Events.{AreEvents, EventValue, WhatValue, inject, clear, rate}
-use Rattle.world_config.specs.Events.{event_fits, what_fits}
-use Rattle.mutations.specs.RateNames.{name_of_rate, rate_named}
-use Rattle.world_config.specs.EventForms.{both, event_of, events_from, events_of}
-use Rattle.world_config.specs.EventForms.{genome_from, more_events, number_from, what_of}
-use Rattle.world_config.specs.Lookup.{item_count}
-use Rattle.world_config.specs.EventTables.{event_members, items_for}
 
 -- the letter of a letter's byte
 found_by_byte : (l : Letter) → letter_of_byte (byte_of l) ≡ Some l

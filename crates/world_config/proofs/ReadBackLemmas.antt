@@ -1,35 +1,12 @@
 -- The table of a configuration says what the configuration says.
-use Rattle.std.proofs.Common.{◌≡◌, ℕ, ◌≤◌, List, [], ◌∷◌, length, Option, None, Ok, refl, ap, ◌∙◌}
-use Rattle.std.proofs.Common.{arith, lit≤, max, Ordering, Less, Equal, Greater, nat_cmp}
-use Rattle.std.specs.Option.{option_map, option_or}
-use Rattle.std.specs.Ordering.{match_ordering}
-use Rattle.std.specs.Cmp.Lexicographic.{slice_cmp}
-use Rattle.toml.specs.Data.{Data, Members, no_members, member}
-use Rattle.toml.specs.Data.{depth, items_depth, members_depth}
-use Rattle.instruction_set.specs.declared.letter.Letter.{Letter}
-use Rattle.genome.specs.Genome.{letters}
-use Rattle.genome.specs.GenomeText.{letters_text_of, spelled_by_letters}
+use Rattle.std.proofs.Common.{◌≡◌, ℕ, ◌≤◌, List, [], ◌∷◌, length, Option, None, Ok, refl, ap, ◌∙◌, arith, lit≤, max, Ordering, Less, Equal, Greater, nat_cmp}
+use Rattle.world_config.proofs.Prelude.{option_map, option_or, match_ordering, slice_cmp, Data, Members, no_members, member, depth, items_depth, members_depth, Letter, letters, letters_text_of, spelled_by_letters, Key, ConfigStop, Frame, key_name, key_row, keys, frame_of, flag_at, frame_in, genome_at, items_at, number_at, first_refusal, is_known, least_unknown, refusal_at, refusal_of, event_values, events_of, ConfigValues, values_in_table, config_in, unless_refused, values_with, insert_member, items_for, printed_at, members_for, with_keys}
 use Rattle.world_config.specs.declared.config.Config.{Config}
-use Rattle.world_config.specs.declared.key.Key.{Key}
 use Rattle.world_config.specs.declared.key.Key.TheVariants as code
-use Rattle.world_config.specs.declared.stop.ConfigStop.{ConfigStop}
 use Rattle.world_config.specs.declared.stop.ConfigStop.TheVariants.{UnknownKey}
-use Rattle.world_config.specs.KeyTable.{Frame, key_name, key_row, keys}
-use Rattle.world_config.specs.Bounds.{frame_of}
-use Rattle.world_config.specs.Lookup.{flag_at, frame_in, genome_at, items_at}
-use Rattle.world_config.specs.Lookup.{number_at}
-use Rattle.world_config.specs.Refusal.{first_refusal, is_known, least_unknown}
-use Rattle.world_config.specs.Refusal.{refusal_at, refusal_of}
-use Rattle.world_config.specs.Events.{event_values}
-use Rattle.world_config.specs.EventForms.{events_of}
-use Rattle.world_config.specs.Values.{ConfigValues, values_in_table, values_of}
-use Rattle.world_config.specs.Config.{config_in, unless_refused, values_with}
-use Rattle.world_config.specs.EventTables.{insert_member, items_for}
-use Rattle.world_config.specs.Groups.{printed_at}
-use Rattle.world_config.specs.Printing.{members_for, with_keys}
+use Rattle.world_config.specs.Values.{values_of}
 use Rattle.world_config.proofs.KindLemmas.{IsOfKind, accepted_value}
-use Rattle.world_config.proofs.PrintLemmas.{IsFrame, events_of-items, item_count-items}
-use Rattle.world_config.proofs.PrintLemmas.{items_depth-events, spelled_by_letters-text}
+use Rattle.world_config.proofs.PrintLemmas.{IsFrame, events_of-items, item_count-items, items_depth-events, spelled_by_letters-text}
 use Rattle.std.specs.Result.{result_unwrap_or}
 
 -- the frame of the values

@@ -1,25 +1,8 @@
 -- What refuses a table, and what it says, by the numbers that were read in groups.
-use Rattle.std.proofs.Common.{◌≡◌, ℕ, List, [], ◌∷◌, ◌++◌, length, Option, Some, None, refl}
-use Rattle.std.proofs.Common.{◌∙◌, ap, add-one, Result, Ok, Err}
-use Rattle.std.specs.Option.{option_or}
-use Rattle.toml.specs.Data.{no_items, Members, string, array}
-use Rattle.toml.specs.declared.value.Value.{Value}
-use Rattle.toml.specs.View.{items_view}
-use Rattle.world_config.specs.declared.key.Key.{Key}
+use Rattle.std.proofs.Common.{◌≡◌, ℕ, List, [], ◌∷◌, ◌++◌, length, Option, Some, None, refl, ◌∙◌, ap, add-one, Result, Ok, Err}
+use Rattle.world_config.proofs.Prelude.{option_or, no_items, Members, string, array, Value, items_view, Key, ConfigStop, Frame, default_ancestor, events, genome, keys, frame_of, frame_in, genome_at, item_count, items_at, items_of_value, letters_of_value, number_at, value_or, first_refusal, refusal_at, refusal_of, EventValue, event_refusal, events_of, ConfigValues, values_in_table, unless_refused, values_with, AreNumbers, number_keys, numbers_frame}
 use Rattle.world_config.specs.declared.key.Key.TheVariants as code
 use Rattle.world_config.specs.declared.numbers.Numbers.{Numbers}
-use Rattle.world_config.specs.declared.stop.ConfigStop.{ConfigStop}
-use Rattle.world_config.specs.KeyTable.{Frame, default_ancestor, events, genome, keys}
-use Rattle.world_config.specs.Bounds.{frame_of}
-use Rattle.world_config.specs.Lookup.{frame_in, genome_at, item_count, items_at, items_of_value}
-use Rattle.world_config.specs.Lookup.{letters_of_value, number_at, value_or}
-use Rattle.world_config.specs.Refusal.{first_refusal, refusal_at, refusal_of}
-use Rattle.world_config.specs.Events.{EventValue}
-use Rattle.world_config.specs.EventForms.{events_of}
-use Rattle.world_config.specs.Values.{ConfigValues, values_in_table}
-use Rattle.world_config.specs.Config.{unless_refused, values_with}
-use Rattle.world_config.specs.Members.{event_refusal}
-use Rattle.world_config.specs.Groups.{AreNumbers, number_keys, numbers_frame}
 
 -- the first of three refusals
 option_or-assoc : (a b c : Option ConfigStop) → option_or (option_or a b) c ≡ option_or a (option_or b c)

@@ -2,17 +2,9 @@
 use Rattle.std.proofs.Common.{◌≡◌, ℕ, ◌+◌, ◌<◌, List, [], ◌∷◌, ◌++◌, length, map, take, get_or}
 use Rattle.std.proofs.Common.{String, Global, string_bytes, refl, ◌∙◌, Ordering, Less, Equal}
 use Rattle.std.proofs.Common.{Greater}
-use Rattle.std.specs.Ordering.{match_ordering}
-use Rattle.std.proofs.lemmas.List.{map-append, take_more}
+use Rattle.world_config.proofs.Prelude.{match_ordering, map-append, take_more, string_cmp, Value, push_item, table, view, items_view, members_view, Entry, items_view-push, EventValue, event_value, what_value, event_members, insert_member, items_for}
 use Rattle.std.specs.BTreeMap.{insert_entry}
-use Rattle.std.specs.String.{string_cmp}
-use Rattle.toml.specs.declared.value.Value.{Value}
-use Rattle.toml.specs.Data.{push_item, table}
-use Rattle.toml.specs.View.{view, items_view, members_view}
-use Rattle.toml.proofs.Views.{Entry, items_view-push}
 use Rattle.world_config.specs.declared.event.Event.{Event}
-use Rattle.world_config.specs.Events.{EventValue, event_value, what_value}
-use Rattle.world_config.specs.EventTables.{event_members, insert_member, items_for}
 
 -- the members of a table that is chosen by an order
 match_members : (o : Ordering) (a b c : List Entry)

@@ -1,18 +1,10 @@
 -- The least unknown key of a table whose keys ascend is the first.
 use Rattle.std.proofs.Common.{◌≡◌, ℕ, false, not, List, [], ◌∷◌, Option, Some, None, option_map}
 use Rattle.std.proofs.Common.{String, Global, string_bytes, refl, Less, nat_cmp, inl, inr}
+use Rattle.world_config.proofs.Prelude.{find, AllByRecursion, IsStrictlySortedBy, is_lt, slice_cmp, string_cmp, cases_Bool, members_view, Entry, is_known, least_of, least_unknown}
 use Rattle.std.specs.Bool.{⊤}
-use Rattle.std.specs.List.{find, AllByRecursion}
-use Rattle.std.specs.List.Sorted.{IsStrictlySortedBy}
 use Rattle.std.specs.Map.{keys_of}
-use Rattle.std.specs.Ordering.{is_lt}
-use Rattle.std.specs.Cmp.Lexicographic.{slice_cmp}
-use Rattle.std.specs.String.{string_cmp}
-use Rattle.std.proofs.lemmas.Bool.{cases_Bool}
 use Rattle.std.proofs.lemmas.Cmp.{nat_list_cmp_total}
-use Rattle.toml.specs.View.{members_view}
-use Rattle.toml.proofs.Views.{Entry}
-use Rattle.world_config.specs.Refusal.{is_known, least_of, least_unknown}
 
 -- the key is not below this one
 abbrev IsNotBelow : List ℕ → Option (List ℕ) → Type 0

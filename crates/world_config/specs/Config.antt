@@ -2,8 +2,7 @@
 -- its values, or to its first refusal. For example, `width = 20` has the width 20 and each other
 -- default, and `width = 0` is refused.
 use Rattle.std.specs.Prelude.{ℕ, if◌then◌else◌, List, Option, Some, None, Result, Ok, Err}
-use Rattle.std.specs.Str.{is_utf8}
-use Rattle.toml.specs.Data.{Members}
+use Rattle.world_config.specs.Prelude.{is_utf8, Members, option_map_or}
 use Rattle.toml.specs.Parse.{parse_document}
 use Rattle.world_config.specs.declared.key.Key.TheVariants as code
 use Rattle.world_config.specs.declared.stop.ConfigStop.{ConfigStop}
@@ -13,7 +12,6 @@ use Rattle.world_config.specs.Refusal.{refusal_in}
 use Rattle.world_config.specs.Events.{EventValue}
 use Rattle.world_config.specs.EventForms.{events_of}
 use Rattle.world_config.specs.Values.{ConfigValues}
-use Rattle.std.specs.Option.{option_map_or}
 pub use Rattle.world_config.specs.Values.{values_in_table}
 
 -- what a table says with the events that were read, or the refusal of the nth member of its array

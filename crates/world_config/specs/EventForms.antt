@@ -1,17 +1,8 @@
 -- Which tables are events (docs/FORMATS.md, "The configuration"), and which arrays are lists of
 -- events. For example, the table with `kind = "clear"`, `update = 5`, `first = 0` and `last = 9`,
 -- in any order, is the event of update 5 that does `clear 0 9`.
-use Rattle.std.specs.Prelude.{ℕ, ◌+◌, pos, Bool, true, ◌&&◌, nat_le, if◌then◌else◌, codes}
-use Rattle.std.specs.Prelude.{List, [], ◌∷◌, length, Option, Some, None, option_map}
-use Rattle.std.specs.Prelude.{option_and_then, Result, Ok, Err}
-use Rattle.std.specs.List.{list_any}
-use Rattle.std.specs.Str.{bytes_eq}
-use Rattle.toml.specs.Data.{Data, string, integer, table, Items, no_items, item}
-use Rattle.toml.specs.Data.{Members, no_members, member, get_member, as_str}
-use Rattle.instruction_set.specs.declared.letter.Letter.{Letter}
-use Rattle.genome.specs.declared.stop.GenomeStop.{GenomeStop}
-use Rattle.genome.specs.GenomeText.{spelled_by_letters}
-use Rattle.mutations.specs.RateNames.{rate_named}
+use Rattle.std.specs.Prelude.{ℕ, ◌+◌, pos, Bool, true, ◌&&◌, nat_le, if◌then◌else◌, codes, List, [], ◌∷◌, length, Option, Some, None, option_map, option_and_then, Result, Ok, Err}
+use Rattle.world_config.specs.Prelude.{list_any, bytes_eq, Data, string, integer, table, Items, no_items, item, Members, no_members, member, get_member, as_str, Letter, GenomeStop, spelled_by_letters, rate_named}
 use Rattle.world_config.specs.KeyTable.{Frame}
 use Rattle.world_config.specs.Events.{EventValue, WhatValue, inject, clear, rate}
 

@@ -2,12 +2,7 @@
 -- For example, the event of update 5 that does `clear 0 9` has four keys, in the order of bytes:
 -- first, kind, last and update. No clause of a public function cites this file.
 use Rattle.std.specs.Prelude.{ℕ, pos, List, [], ◌∷◌, codes}
-use Rattle.std.specs.Ordering.{nat_cmp, match_ordering}
-use Rattle.std.specs.Cmp.Lexicographic.{slice_cmp}
-use Rattle.toml.specs.Data.{Data, string, integer, table, Items, no_items, item}
-use Rattle.toml.specs.Data.{Members, no_members, member}
-use Rattle.genome.specs.GenomeText.{letters_text_of}
-use Rattle.mutations.specs.RateNames.{name_of_rate}
+use Rattle.world_config.specs.Prelude.{nat_cmp, match_ordering, slice_cmp, Data, string, integer, table, Items, no_items, item, Members, no_members, member, letters_text_of, name_of_rate}
 use Rattle.world_config.specs.Events.{EventValue, WhatValue, inject, clear, rate}
 
 -- the members with this value at the key, in the order of bytes; a value that was there goes

@@ -1,16 +1,17 @@
 -- Events as values, and which events a configuration may have (docs/WORLD.md, "Events"). For
 -- example, an event that kills all organisms in the cells 0 to 9 at the end of update 5 has the
 -- update 5 and is `clear 0 9`.
-use Rattle.std.specs.Prelude.{ℕ, ◌≤◌, Bool, ◌&&◌, nat_le, List, length, map}
-use Rattle.std.specs.List.{AllPass}
+use Rattle.std.specs.Prelude.{ℕ, ◌≤◌, Bool, ◌&&◌, nat_le, List, length, map, Option, Some, None, Result, Ok, Err}
+use Rattle.world_config.specs.Prelude.{AllPass, Letter, letters}
 use Rattle.std.specs.List.Sorted.{IsNonDecreasingBy}
-use Rattle.instruction_set.specs.declared.letter.Letter.{Letter}
-use Rattle.genome.specs.Genome.{letters}
 use Rattle.mutations.specs.declared.rate_name.RateName.{RateName}
 use Rattle.world_config.specs.declared.event.Event.{Event}
 use Rattle.world_config.specs.declared.event.What.{What}
 use Rattle.world_config.specs.declared.event.What.TheVariants as code
 use Rattle.world_config.specs.KeyTable.{Frame}
+use Rattle.world_config.specs.declared.event_forms.Frame.{Frame as FrameCode}
+use Rattle.world_config.specs.declared.stop.ConfigStop.{ConfigStop}
+use Rattle.world_config.specs.declared.stop.ConfigStop.TheVariants.{BadEvent}
 
 -- puts these letters into a cell, kills all from cell to cell, or sets a rate from the next update
 pub data WhatValue : Type 0 where
@@ -55,3 +56,17 @@ pub record AreEvents (frame : Frame) (events : List EventValue) : Type 0 where
 -- the values of the code's events
 abbrev pub event_values : List Event → List EventValue
 event_values events = map event_value events
+
+-- the code's four numbers as a frame
+abbrev pub frame_value : FrameCode → Frame
+frame_value frame = record {
+  last_cell = frame.last_cell;
+  updates = frame.updates;
+  least_length = frame.least_length;
+  greatest_length = frame.greatest_length;
+}
+
+-- the refusal of an array, by the place of its first member that is no event
+abbrev pub event_refusal : Result (List EventValue) ℕ → Option ConfigStop
+event_refusal (Ok events) = None
+event_refusal (Err nth) = Some (BadEvent nth)

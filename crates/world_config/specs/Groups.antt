@@ -2,9 +2,7 @@
 -- with `width = 20` in the table, ArePlace holds only of a group whose `width` is 20, and 20 is
 -- printed at Width again. No clause of a public function cites this file.
 use Rattle.std.specs.Prelude.{◌≡◌, pos, List, [], ◌∷◌, ◌++◌}
-use Rattle.toml.specs.Data.{Data, string, integer, boolean, array, Members}
-use Rattle.genome.specs.GenomeText.{letters_text_of}
-use Rattle.mutations.specs.Rates.{numbers_of}
+use Rattle.world_config.specs.Prelude.{Data, string, integer, boolean, array, Members, letters_text_of, numbers_of}
 use Rattle.world_config.specs.declared.key.Key.{Key}
 use Rattle.world_config.specs.declared.key.Key.TheVariants as code
 use Rattle.world_config.specs.declared.groups.PlaceKeys.{PlaceKeys}
@@ -12,8 +10,7 @@ use Rattle.world_config.specs.declared.groups.LifeKeys.{LifeKeys}
 use Rattle.world_config.specs.declared.groups.DivideKeys.{DivideKeys}
 use Rattle.world_config.specs.declared.groups.LengthKeys.{LengthKeys}
 use Rattle.world_config.specs.declared.numbers.Numbers.{Numbers}
-use Rattle.world_config.specs.KeyTable.{Frame}
-use Rattle.world_config.specs.Bounds.{frame_of}
+use Rattle.world_config.specs.KeyTable.{Frame, frame_of}
 use Rattle.world_config.specs.Lookup.{number_at, flag_at, frame_in}
 use Rattle.world_config.specs.Values.{ConfigValues, rates_in_table}
 use Rattle.world_config.specs.EventTables.{items_for}

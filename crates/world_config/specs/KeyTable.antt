@@ -1,8 +1,8 @@
 -- The table of keys (docs/FORMATS.md, "The configuration"): each key's name, default and range, in
 -- the order of trying: `width` is from 1 to 256, and 60 where a document has none. `Data` is TOML's
 -- value: `integer (pos 60)` is 60, `integer (negsuc 0)` is -1, and `string` has a text's bytes.
-use Rattle.std.specs.Prelude.{ℕ, max, pos, true, List, [], ◌∷◌, ◌++◌, codes, replicate}
-use Rattle.toml.specs.Data.{Data, string, integer, boolean, array, no_items}
+use Rattle.std.specs.Prelude.{ℕ, max, pos, true, List, [], ◌∷◌, ◌++◌, codes, replicate, ◌-◌, ◌*◌}
+use Rattle.world_config.specs.Prelude.{Data, string, integer, boolean, array, no_items}
 use Rattle.world_config.specs.declared.key.Key.{Key}
 use Rattle.world_config.specs.declared.key.Key.TheVariants as code
 
@@ -84,3 +84,16 @@ no_frame = record { last_cell = 0; updates = 0; least_length = 0; greatest_lengt
 -- the name of a key
 abbrev pub key_name : Key → List ℕ
 key_name key = (key_row no_frame key).name
+
+-- the last cell of a world of this width and height: cells are numbered from 0
+abbrev pub last_cell_of : ℕ → ℕ → ℕ
+last_cell_of width height = width * height - 1
+
+-- the frame of this width, height, number of updates, least length and greatest length
+abbrev pub frame_of : ℕ → ℕ → ℕ → ℕ → ℕ → Frame
+frame_of width height updates least_length greatest_length = record {
+  last_cell = last_cell_of width height;
+  updates = updates;
+  least_length = least_length;
+  greatest_length = greatest_length;
+}

@@ -1,3 +1,4 @@
+pub mod Prelude
 -- The files in the order of reading. The last four are the code's own: no clause of a public
 -- function cites them. The main definition is `config_of` in Config: what the bytes of a document
 -- are read as.
@@ -5,7 +6,6 @@ pub use Rattle.toml.specs.Data
 pub use Rattle.genome.specs.Genome
 pub use Rattle.genome.specs.GenomeText
 pub mod KeyTable
-pub mod Bounds
 pub mod Lookup
 pub mod Refusal
 pub mod Events
@@ -13,7 +13,6 @@ pub mod EventForms
 pub mod Values
 pub mod Shown
 pub mod Config
-pub mod Members
 pub mod EventTables
 pub mod Groups
 pub mod Printing

@@ -2,10 +2,7 @@
 -- configuration"). What is of another kind counts as 0, false or nothing, since Refusal rejects it.
 -- `Members` are the keys of a table with their values, and `Items` the members of an array.
 use Rattle.std.specs.Prelude.{ℕ, pos, ◌+◌, ◌-◌, ◌*◌, Bool, false, List, [], unwrap_or}
-use Rattle.toml.specs.Data.{Data, string, integer, boolean, array}
-use Rattle.toml.specs.Data.{Items, no_items, item, Members, get_member}
-use Rattle.instruction_set.specs.declared.letter.Letter.{Letter}
-use Rattle.genome.specs.GenomeText.{spelled_by_letters}
+use Rattle.world_config.specs.Prelude.{Data, string, integer, boolean, array, Items, no_items, item, Members, get_member, Letter, spelled_by_letters}
 use Rattle.world_config.specs.declared.key.Key.{Key}
 use Rattle.world_config.specs.declared.key.Key.TheVariants as code
 use Rattle.world_config.specs.KeyTable.{KeyRow, Frame, no_frame, key_name, key_row}

@@ -2,7 +2,7 @@
 -- in the order of bytes. For example, `age_limit` and `ancestor` come first. No clause of a public
 -- function cites this file.
 use Rattle.std.specs.Prelude.{List, [], ◌∷◌}
-use Rattle.toml.specs.Data.{Members, no_members}
+use Rattle.world_config.specs.Prelude.{Members, no_members}
 use Rattle.world_config.specs.declared.key.Key.{Key}
 use Rattle.world_config.specs.KeyTable.{key_name, keys}
 use Rattle.world_config.specs.Values.{ConfigValues}

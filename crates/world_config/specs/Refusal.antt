@@ -3,15 +3,7 @@
 -- is refused for `wide`. None is no refusal. Config has the refusal of an event.
 use Rattle.std.specs.Prelude.{ℕ, ℤ, pos, negsuc, Bool, ◌&&◌, nat_le, if◌then◌else◌}
 use Rattle.std.specs.Prelude.{List, [], ◌∷◌, length, Option, Some, None, Result, Ok, Err}
-use Rattle.std.specs.List.{list_any}
-use Rattle.std.specs.Option.{option_map, option_or}
-use Rattle.std.specs.Ordering.{nat_cmp, is_lt}
-use Rattle.std.specs.Cmp.Lexicographic.{slice_cmp}
-use Rattle.std.specs.Str.{bytes_eq}
-use Rattle.toml.specs.Data.{Data, string, integer, boolean, array, Members, no_members, member}
-use Rattle.instruction_set.specs.declared.letter.Letter.{Letter}
-use Rattle.genome.specs.declared.stop.GenomeStop.{GenomeStop}
-use Rattle.genome.specs.GenomeText.{spelled_by_letters}
+use Rattle.world_config.specs.Prelude.{list_any, option_map, option_or, nat_cmp, is_lt, slice_cmp, bytes_eq, Data, string, integer, boolean, array, Members, no_members, member, Letter, GenomeStop, spelled_by_letters}
 use Rattle.world_config.specs.declared.key.Key.{Key}
 use Rattle.world_config.specs.declared.stop.ConfigStop.{ConfigStop}
 use Rattle.world_config.specs.declared.stop.ConfigStop.TheVariants.{UnknownKey, WrongKind}

@@ -2,11 +2,8 @@
 -- table has it, and as the code's configuration holds it. For example, `width = 20` alone gives the
 -- values with `width` 20, `height` 60 and each other default, and without an event.
 use Rattle.std.specs.Prelude.{ℕ, Bool, List}
-use Rattle.toml.specs.Data.{Members}
-use Rattle.instruction_set.specs.declared.letter.Letter.{Letter}
-use Rattle.genome.specs.Genome.{letters}
+use Rattle.world_config.specs.Prelude.{Members, Letter, letters, RateNumbers}
 use Rattle.divide_rules.specs.Rules.{RuleNumbers}
-use Rattle.mutations.specs.Rates.{RateNumbers}
 use Rattle.world_config.specs.declared.config.Config.{Config}
 use Rattle.world_config.specs.declared.key.Key.TheVariants as code
 use Rattle.world_config.specs.Lookup.{number_at, flag_at, genome_at, frame_in}

@@ -1,8 +1,7 @@
 // A configuration, whose type keeps its bounds.
 ghost use Rattle.std.specs.Prelude.{◌≡◌, length};
-ghost use Rattle.genome.specs.Genome.{letters};
-ghost use Rattle.mutations.specs.RecordForm.{IsWithin};
-ghost use Rattle.world_config.specs.Bounds.{frame_of, last_cell_of};
+ghost use Rattle.world_config.specs.Prelude.{letters, IsWithin};
+ghost use Rattle.world_config.specs.KeyTable.{frame_of, last_cell_of};
 ghost use Rattle.world_config.specs.Events.{AreEvents, event_values};
 
 use crate::event_tables::{event_tables, letters_of, number_value};

@@ -1,18 +1,10 @@
 // The forms of events.
-ghost use Rattle.std.specs.Prelude.{◌≡◌, ◌≢◌, ◌≤◌, None, Some, Err, Ok, IfOk, IfErr, length, map};
-ghost use Rattle.std.specs.Prelude.{option_map, option_and_then, string_bytes};
-ghost use Rattle.std.specs.List.{list_all, list_any};
+ghost use Rattle.std.specs.Prelude.{◌≡◌, ◌≢◌, ◌≤◌, None, Some, Err, Ok, IfOk, IfErr, length, map, option_map, option_and_then, string_bytes};
+ghost use Rattle.world_config.specs.Prelude.{list_all, list_any, bytes_eq, items_view, table_view, view, letters, spelled_by_letters};
 ghost use Rattle.std.specs.BTreeMap as tree;
-ghost use Rattle.std.specs.Str.{bytes_eq};
 ghost use Rattle.toml.specs.Data.{as_str, get_member, table as table_data};
-ghost use Rattle.toml.specs.View.{items_view, table_view, view};
-ghost use Rattle.genome.specs.Genome.{letters};
-ghost use Rattle.genome.specs.GenomeText.{spelled_by_letters};
-ghost use Rattle.world_config.specs.Events.{event_value, event_values, what_value};
-ghost use Rattle.world_config.specs.EventForms.{clear_of, event_of, events_of, genome_from};
-ghost use Rattle.world_config.specs.EventForms.{has_only, inject_of, number_from, rate_of};
-ghost use Rattle.world_config.specs.EventForms.{sized, what_of};
-ghost use Rattle.world_config.specs.Members.{event_refusal, frame_value};
+ghost use Rattle.world_config.specs.Events.{event_value, event_values, what_value, event_refusal, frame_value};
+ghost use Rattle.world_config.specs.EventForms.{clear_of, event_of, events_of, genome_from, has_only, inject_of, number_from, rate_of, sized, what_of};
 
 use crate::event::{Event, What};
 use crate::events::Events;

@@ -1,9 +1,6 @@
 // The tables that print events.
 ghost use Rattle.std.specs.Prelude.{◌≡◌, IfOk, OnOk, map, pos, string_bytes};
-ghost use Rattle.toml.specs.Data.{integer, no_members, string};
-ghost use Rattle.toml.specs.View.{items_view, table_view, view};
-ghost use Rattle.genome.specs.Genome.{letters};
-ghost use Rattle.genome.specs.GenomeText.{letters_text_of};
+ghost use Rattle.world_config.specs.Prelude.{integer, no_members, string, items_view, table_view, view, letters, letters_text_of};
 ghost use Rattle.world_config.specs.Events.{event_value};
 ghost use Rattle.world_config.specs.EventTables.{event_members, insert_member, items_for};
 

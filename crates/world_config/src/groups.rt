@@ -5,7 +5,7 @@ ghost use Rattle.std.specs.Prelude.{◌≡◌, IfOk};
 ghost use Rattle.std.specs.Result.{result_err};
 ghost use Rattle.toml.specs.View.{table_view};
 ghost use Rattle.mutations.specs.RecordForm.{IsWithin};
-ghost use Rattle.world_config.specs.Bounds.{last_cell_of};
+ghost use Rattle.world_config.specs.KeyTable.{last_cell_of};
 
 use crate::key::Key;
 use crate::limits::{GREATEST_AGE, GREATEST_AVERAGE, GREATEST_PERCENT, GREATEST_UPDATES};

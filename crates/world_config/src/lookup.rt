@@ -1,9 +1,7 @@
 // The values of a table at its keys.
 ghost use Rattle.std.specs.Prelude.{◌≡◌, ℕ, pos, None, Some, IfOk, IfErr, OnOk, option_map};
-ghost use Rattle.toml.specs.Data.{array, boolean, get_member, integer, no_items, string};
-ghost use Rattle.toml.specs.View.{items_view, table_view, view};
+ghost use Rattle.world_config.specs.Prelude.{array, boolean, get_member, integer, no_items, string, items_view, table_view, view, IsWithin};
 ghost use Rattle.world_config.specs.KeyTable.{key_name, number, flag, genome, events};
-ghost use Rattle.mutations.specs.RecordForm.{IsWithin};
 ghost use Rattle.world_config.specs.Lookup.{value_or};
 ghost use Rattle.world_config.specs.Refusal.{refusal_of, unless_within};
 

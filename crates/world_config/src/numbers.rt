@@ -1,6 +1,6 @@
 // The numbers and truths of a configuration, all groups of them.
 ghost use Rattle.std.specs.Prelude.{◌≡◌, None, Some, IfOk, IfErr, OnOk};
-ghost use Rattle.toml.specs.View.{table_view};
+ghost use Rattle.world_config.specs.Prelude.{table_view};
 
 use crate::event_forms::Frame;
 use crate::groups::{DivideKeys, LengthKeys, LifeKeys, PlaceKeys};
@@ -22,7 +22,7 @@ pub(crate) struct Numbers {
 impl Numbers {
     ghost use Rattle.world_config.specs.Refusal.{first_refusal};
     ghost use Rattle.world_config.specs.Groups.{AreNumbers, numbers_frame, number_keys};
-    ghost use Rattle.world_config.specs.Members.{frame_value};
+    ghost use Rattle.world_config.specs.Events.{frame_value};
 
     pub(crate) fn read(table: &Table) -> Result<Numbers, ConfigStop>
         ensures value { IfOk result (AreNumbers (table_view table.now)) }

@@ -1,6 +1,6 @@
 // Printing a configuration.
 ghost use Rattle.std.specs.Prelude.{◌≡◌, Ok, IfOk, string_bytes};
-ghost use Rattle.toml.specs.View.{table_view};
+ghost use Rattle.world_config.specs.Prelude.{table_view};
 ghost use Rattle.world_config.specs.Config.{config_of};
 ghost use Rattle.world_config.specs.Printing.{members_for};
 ghost use Rattle.world_config.specs.Shown.{values_of};

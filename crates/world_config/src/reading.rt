@@ -1,13 +1,9 @@
 // Reading a document.
 ghost use Rattle.std.specs.Prelude.{◌≡◌, ◌≢◌, ◌≤◌, ℕ, None, Some, Ok, Err, IfOk, IfErr, OnOk};
 ghost use Rattle.std.specs.Prelude.{length};
-ghost use Rattle.toml.specs.Data.{array, no_items, string};
-ghost use Rattle.toml.specs.View.{items_view, table_view};
-ghost use Rattle.genome.specs.Genome.{letters};
-ghost use Rattle.genome.specs.GenomeText.{spelled_by_letters};
+ghost use Rattle.world_config.specs.Prelude.{array, no_items, string, items_view, table_view, letters, spelled_by_letters, IsWithin};
 ghost use Rattle.world_config.specs.declared.key.Key.{Key};
 ghost use Rattle.world_config.specs.KeyTable.{default_ancestor, events, genome, keys};
-ghost use Rattle.mutations.specs.RecordForm.{IsWithin};
 ghost use Rattle.world_config.specs.Config.{config_in, config_of, unless_refused, values_with};
 ghost use Rattle.world_config.specs.Lookup.{frame_in, items_at, letters_of_value, value_or};
 ghost use Rattle.world_config.specs.Refusal.{first_refusal, refusal_of, unless_genome};

@@ -1,9 +1,8 @@
 // Keys that no row names.
 ghost use Rattle.std.specs.Prelude.{◌≡◌, not, option_map, string_bytes};
-ghost use Rattle.std.specs.List.{find};
+ghost use Rattle.world_config.specs.Prelude.{find, table_view};
 ghost use Rattle.std.specs.BTreeMap as tree;
 ghost use Rattle.std.specs.String.{string_cmp};
-ghost use Rattle.toml.specs.View.{table_view};
 ghost use Rattle.world_config.specs.Refusal.{is_known, least_unknown};
 
 use crate::key::KEYS;

@@ -1,20 +1,7 @@
 -- The newborns of an update, each with its placing.
 use Rattle.std.proofs.Common.{◌≡◌, ◌∙◌, ap, sym, List, [], ◌∷◌, ◌++◌, append-nil, append_assoc, arith, fold, length, map}
-use Rattle.std.specs.List.{zip}
-use Rattle.std.specs.Vec.Iter.{into_iter_items, into_iter_len, into_iter_steps}
-use Rattle.std.proofs.lemmas.Iterator.{YieldsList}
+use Rattle.world_core.proofs.Prelude.{zip, into_iter_items, into_iter_len, into_iter_steps, YieldsList, length-map, map_push, firsts-zip, Placing, genome_in, Link, ConfigValues, Scene, with_newcomer, Delivery, with_newborn, genomes_ever, delivered_in, delivery_in, Birth}
 use Rattle.std.proofs.lemmas.Iterator.Splits.{YieldsList-from_shown_while}
-use Rattle.std.proofs.lemmas.List.{length-map, map_push}
-use Rattle.std.proofs.lemmas.Slice.Zip.{firsts-zip}
-use Rattle.birth_board.specs.declared.placing.Placing.{Placing}
-use Rattle.cell_shards.specs.Finishing.{genome_in}
-use Rattle.lineage_log.specs.Links.{Link}
-use Rattle.world_config.specs.Values.{ConfigValues}
-use Rattle.world_rules.specs.Scene.{Scene, with_newcomer}
-use Rattle.world_rules.specs.Update.{Delivery, with_newborn}
-use Rattle.world_core.specs.Genotypes.{genomes_ever}
-use Rattle.world_core.specs.Lived.{delivered_in, delivery_in}
-use Rattle.world_core.specs.declared.ids.Birth.{Birth}
 use Rattle.world_core.proofs.BirthOrderLemmas.{map-both}
 
 -- an iterator over a list gives what is made of each of its items

@@ -1,17 +1,6 @@
 -- The newborns of an update, in the order of their cells.
 use Rattle.std.proofs.Common.{◌≡◌, ◌^◌, ℕ, suc, ◌+◌, ◌-◌, ◌<◌, ◌≤◌, Some, None, Option, List, [], ◌∷◌, ◌++◌, length, map, sum, get_or, arith, refl, ap, subst, inl, inr}
-use Rattle.std.specs.List.{All, flat_map, enumerate_from}
-use Rattle.std.specs.List.Sorted.{IsNonDecreasing}
-use Rattle.std.proofs.lemmas.Bool.{cases_lt}
-use Rattle.std.proofs.lemmas.List.{get_or-map, map-append, length-map, length-append, get_or_append_left, get_or-append_right}
-use Rattle.std.proofs.lemmas.List.Elements.{All-nil, All-append, All-map}
-use Rattle.std.proofs.lemmas.List.Sums.{sum_by-cons}
-use Rattle.organism.specs.Newborns.{NewbornValue}
-use Rattle.world_config.specs.Values.{ConfigValues}
-use Rattle.world_rules.specs.World.{Occupant}
-use Rattle.world_rules.specs.Lives.{CellLife, no_life}
-use Rattle.world_rules.specs.Update.{Delivery, delivery_of, births_by, births_in, births_of}
-use Rattle.world_core.specs.Bounds.{IsDelivery}
+use Rattle.world_core.proofs.Prelude.{All, flat_map, enumerate_from, IsNonDecreasing, cases_lt, get_or-map, map-append, length-map, length-append, get_or_append_left, get_or-append_right, All-nil, All-append, All-map, sum_by-cons, NewbornValue, ConfigValues, Occupant, CellLife, no_life, Delivery, delivery_of, births_by, births_in, births_of, IsDelivery}
 
 -- a map after a map
 pub map-both : {A B C : Type 0} (f : A → B) (g : B → C) (xs : List A)

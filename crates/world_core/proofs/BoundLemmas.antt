@@ -1,26 +1,7 @@
 -- The lives of an update keep the bounds of a world.
 use Rattle.std.proofs.Common.{◌≡◌, ◌∙◌, refl, sym, ap, subst, ℕ, ◌+◌, ◌<◌, ◌≤◌, ◌^◌, Bool, true, false, cond, List, [], length, map, sum, get_or, Option, Some, None, arith, inl, inr}
 use Rattle.std.specs.Prelude.{slice_get}
-use Rattle.std.specs.List.{All}
-use Rattle.std.proofs.lemmas.Bool.{cases_lt}
-use Rattle.std.proofs.lemmas.List.{get_or_default, get_or_past, length-map}
-use Rattle.std.proofs.lemmas.List.Elements.{All-nil, All-map, All-weaker}
-use Rattle.std.proofs.lemmas.List.FromFn.{get_or-map-range_with_len, length-map-range_with_len}
-use Rattle.std.proofs.lemmas.Option.{slice_get-get_or}
-use Rattle.organism.specs.Lived.{HasLived, IsBornOf, beginning}
-use Rattle.organism.specs.UpdateLife.{life}
-use Rattle.organism.specs.OrganismLife.{life_by}
-use Rattle.random_streams.specs.declared.purpose.Purpose.TheVariants.{Run}
-use Rattle.random_streams.specs.RandomStream.{draw}
-use Rattle.world_config.specs.Values.{ConfigValues}
-use Rattle.world_rules.specs.Lives.{CellLife, life_at, life_of, lives_of, no_life, slice_at, slices_at}
-use Rattle.world_rules.specs.Settings.{settings_at}
-use Rattle.world_rules.specs.Update.{births_of}
-use Rattle.world_rules.specs.World.{Occupant}
-use Rattle.world_laws.specs.Keeping.{LiveOn}
-use Rattle.world_core.specs.Bounds.{AreBounded, AreBoundedLives, IsBoundedIn}
-use Rattle.world_core.specs.Lived.{staying_in}
-use Rattle.world_core.specs.Population.{occupant_genome}
+use Rattle.world_core.proofs.Prelude.{All, cases_lt, get_or_default, get_or_past, length-map, All-nil, All-map, All-weaker, get_or-map-range_with_len, length-map-range_with_len, slice_get-get_or, HasLived, IsBornOf, beginning, life_by, life, Run, draw, ConfigValues, CellLife, life_at, life_of, lives_of, no_life, slice_at, slices_at, settings_at, births_of, Occupant, LiveOn, AreBounded, AreBoundedLives, IsBoundedIn, staying_in, occupant_genome}
 use Rattle.world_core.proofs.BirthOrderLemmas.{FitsMachine, births_of-few, births_of-fit, births_of-rise}
 use Rattle.world_core.proofs.LifeLemmas.{greatest_of}
 

@@ -1,9 +1,6 @@
 -- Cells in which each organism is bounded.
 use Rattle.std.proofs.Common.{◌^◌, ◌≡◌, set-set, ℕ, ◌<◌, ◌≤◌, List, Option, None, Some, replicate, arith}
-use Rattle.std.proofs.Math.ListN.{set}
-use Rattle.std.proofs.lemmas.List.Elements.{All-replicate, All-set}
-use Rattle.world_rules.specs.World.{Occupant}
-use Rattle.world_core.specs.Bounds.{AreBounded, IsBoundedIn}
+use Rattle.world_core.proofs.Prelude.{set, All-replicate, All-set, Occupant, AreBounded, IsBoundedIn}
 
 -- somebody new is bounded in every update
 pub AreBounded_put : (update : ℕ) (cells : List (Option Occupant)) (cell : ℕ) (o : Occupant)

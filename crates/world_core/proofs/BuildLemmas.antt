@@ -1,15 +1,6 @@
 -- A saved world that is made of its lines.
 use Rattle.std.proofs.Common.{◌≡◌, ◌∙◌, sym, ap, subst, ℕ, List, length, arith}
-use Rattle.std.proofs.lemmas.List.{length-replicate}
-use Rattle.saved_lines.specs.SavedValues.{HeadValues}
-use Rattle.saved_worlds.specs.Resuming.{forgotten, world_of_state}
-use Rattle.saved_worlds.specs.SavedGrammar.{Placed, state_of_lines}
-use Rattle.saved_worlds.specs.SavedState.{SavedState, head_at, state_of_world}
-use Rattle.saved_worlds.specs.ValidState.{CanGoOn}
-use Rattle.world_config.specs.Values.{ConfigValues}
-use Rattle.world_rules.specs.Update.{world_of}
-use Rattle.world_core.specs.Resumed.{IsState, state_in}
-use Rattle.world_core.specs.Scenes.{SceneValue, scene_in}
+use Rattle.world_core.proofs.Prelude.{length-replicate, HeadValues, forgotten, world_of_state, Placed, state_of_lines, SavedState, head_at, state_of_world, CanGoOn, ConfigValues, world_of, IsState, state_in, SceneValue, scene_in}
 
 -- a settled scene of the world of these lines can go on, where they can
 pub state_built : (config : ConfigValues) (head : HeadValues) (placed : List Placed)

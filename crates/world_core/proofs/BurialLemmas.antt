@@ -1,18 +1,6 @@
 -- Those that died of age leave their cells one after another, or all at once.
 use Rattle.std.proofs.Common.{◌≡◌, ◌∙◌, refl, sym, ap, ℕ, ◌+◌, Bool, cond, List, [], ◌∷◌, ◌++◌, append-nil, append_assoc, length, map, get_or, filter, Option, Some, None, arith, inl, inr}
-use Rattle.std.specs.List.{filter_map, range_with_len, scan}
-use Rattle.std.specs.Option.{option_map, option_to_list}
-use Rattle.std.proofs.lemmas.Bool.{cases_Bool}
-use Rattle.std.proofs.lemmas.List.{get_or_at, length_push, map-append, set_at}
-use Rattle.lineage_log.specs.Links.{Link}
-use Rattle.log_lines.specs.Line.{Line, Death}
-use Rattle.world_rules.specs.Lives.{CellLife, no_life}
-use Rattle.world_rules.specs.LogText.{death_line, death_lines}
-use Rattle.world_rules.specs.Scene.{Scene, with_death, with_deaths}
-use Rattle.world_rules.specs.Update.{after_burials, after_lives, deaths_of}
-use Rattle.world_rules.specs.World.{Occupant, id_of}
-use Rattle.world_core.specs.Lived.{departed_from, departure, departure_line, staying_in}
-use Rattle.world_core.specs.declared.ids.Departure.{Departure}
+use Rattle.world_core.proofs.Prelude.{filter_map, range_with_len, scan, option_map, option_to_list, cases_Bool, get_or_at, length_push, map-append, set_at, Link, Line, Death, CellLife, no_life, death_line, death_lines, Scene, with_death, with_deaths, Occupant, id_of, after_burials, after_lives, deaths_of, departed_from, departure, departure_line, staying_in, Departure}
 
 -- the cells whose organism died, which go on from this one
 abbrev deaths_at : ℕ → List CellLife → List ℕ

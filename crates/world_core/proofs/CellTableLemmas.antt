@@ -1,20 +1,7 @@
 -- Organisms beside their ids, as one cell changes.
 use Rattle.std.proofs.Common.{◌≡◌, ◌∙◌, ◌<◌, refl, sym, ap, ℕ, zero, suc, List, [], ◌∷◌, length, map, set, get_or, replicate, Option, Some, None, arith}
+use Rattle.world_core.proofs.Prelude.{get_or_read, length-map, length-replicate, length-set, map-set, standing_in, standing_of, Standing, organism_of_image, OrganismState, Resident, values_in, image_of, merit_in, with_id, organism_in, Occupant, AreKeptBeside, occupants_of, merit_or_zero, IsResidentIn}
 use Rattle.std.proofs.Math.ListN.{get_or-map}
-use Rattle.std.proofs.lemmas.List.{get_or_read, length-map, length-replicate, length-set, map-set}
-use Rattle.cell_shards.specs.CellLives.{standing_in, standing_of}
-use Rattle.cell_shards.specs.declared.standing.Standing.{Standing}
-use Rattle.organism.specs.Image.{organism_of_image}
-use Rattle.organism.specs.OrganismState.{OrganismState}
-use Rattle.saved_lines.specs.declared.resident.Resident.{Resident}
-use Rattle.saved_worlds.specs.SavedWorldText.{values_in}
-use Rattle.virtual_cpu.specs.Image.{image_of}
-use Rattle.world_rules.specs.Lives.{merit_in, with_id}
-use Rattle.world_rules.specs.Statistics.{organism_in}
-use Rattle.world_rules.specs.World.{Occupant}
-use Rattle.world_core.specs.CellTables.{AreKeptBeside, occupants_of}
-use Rattle.world_core.specs.Population.{merit_or_zero}
-use Rattle.world_core.specs.Resumed.{IsResidentIn}
 use Rattle.world_core.specs.declared.cell_table.CellTable.TheInside.{Inside}
 use Rattle.world_core.proofs.SumLemmas.{map-replicate}
 

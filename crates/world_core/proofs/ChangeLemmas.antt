@@ -1,16 +1,7 @@
 -- The genotypes that are counted, as one cell changes.
 use Rattle.std.proofs.Common.{◌≡◌, ◌∙◌, refl, sym, ap, ℕ, ◌+◌, ◌<◌, ◌≢◌, ◌⊎◌, Bool, true, false, cond, List, length, set, get_or, get_or-set_same, get_or-set_other, Option, Some, None, is_some, arith, inl, inr}
 use Rattle.std.specs.Prelude.{nat_eq, nat_lt, slice_get}
-use Rattle.std.specs.List.{count_by}
-use Rattle.std.proofs.lemmas.Bool.{cases_eq, eqb-false, eqb-true, false_from_ne_true, ltb-false}
-use Rattle.std.proofs.lemmas.Grind.{get_or-set_at}
-use Rattle.std.proofs.lemmas.List.{length-set}
-use Rattle.std.proofs.lemmas.List.Sums.{sum_by-set, get_or-le-sum_by}
-use Rattle.census.specs.Counts.{GenotypeCount, genotype_at, living_of}
-use Rattle.census.specs.Changes.{count_under, lowered, genotype_with_one, genotype_without_one}
-use Rattle.instruction_set.specs.declared.letter.Letter.{Letter}
-use Rattle.instruction_set.specs.Letter.{same_letters}
-use Rattle.world_core.specs.Population.{AreCountedIn, AreDifferent, is_genome}
+use Rattle.world_core.proofs.Prelude.{count_by, cases_eq, eqb-false, eqb-true, false_from_ne_true, ltb-false, get_or-set_at, length-set, sum_by-set, get_or-le-sum_by, GenotypeCount, genotype_at, living_of, count_under, lowered, genotype_with_one, genotype_without_one, Letter, same_letters, AreCountedIn, AreDifferent, is_genome}
 use Rattle.world_core.proofs.StandingLemmas.{OneList, apart, cells_of, count_in, genome-under, is_itself}
 use Rattle.world_core.proofs.SumLemmas.{one}
 

@@ -1,20 +1,7 @@
 -- Somebody comes into a cell: a founder, or who stood there in a saved world.
 use Rattle.std.proofs.Common.{◌≡◌, ◌∙◌, refl, ap, ℕ, ◌+◌, ◌<◌, ◌≤◌, ◌^◌, List, [], ◌∷◌, ◌++◌, Option, None, Some, length, set, slice_get, arith}
-use Rattle.std.proofs.lemmas.List.{length-set, length_push}
-use Rattle.std.specs.Option.{option_to_list}
-use Rattle.genome.specs.Genome.{letters}
-use Rattle.instruction_set.specs.declared.letter.Letter.{Letter}
-use Rattle.lineage_log.specs.Links.{Link}
-use Rattle.organism.specs.Image.{organism_of_image}
-use Rattle.organism.specs.OrganismState.{OrganismState, new_organism}
+use Rattle.world_core.proofs.Prelude.{length-set, length_push, option_to_list, letters, Letter, Link, organism_of_image, OrganismState, new_organism, machine_of_image, ConfigValues, Scene, with_death, with_newcomer, Occupant, empty_cells, first_world, founder_link, founder_of, id_at, id_of, world_of, CanStand, SceneValue, scene_in, with_occupant}
 use Rattle.organism.specs.declared.image.Image.{Image}
-use Rattle.virtual_cpu.specs.Image.{machine_of_image}
-use Rattle.world_config.specs.Values.{ConfigValues}
-use Rattle.world_rules.specs.Scene.{Scene, with_death, with_newcomer}
-use Rattle.world_rules.specs.Update.{world_of}
-use Rattle.world_rules.specs.World.{Occupant, empty_cells, first_world, founder_link, founder_of, id_at, id_of}
-use Rattle.world_core.specs.Bounds.{CanStand}
-use Rattle.world_core.specs.Scenes.{SceneValue, scene_in, with_occupant}
 use Rattle.world_core.proofs.BoundedCells.{set_over}
 use Rattle.world_core.proofs.StandingLemmas.{nobody}
 

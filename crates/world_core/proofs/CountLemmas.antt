@@ -1,15 +1,6 @@
 -- The counts after lives, one cell after another.
 use Rattle.std.proofs.Common.{◌≡◌, ◌∙◌, refl, sym, ap, ℕ, ◌+◌, ◌<◌, ◌≤◌, ◌^◌, List, [], ◌∷◌, ◌++◌, append-nil, append_assoc, length, set, get_or, take, drop, Option, Some, None, arith, inl, inr}
-use Rattle.std.proofs.Math.Seq.{map-set_same}
-use Rattle.std.proofs.lemmas.List.{drop_all, drop_more, get_or_at, length-append, length-drop, length-take-le, set_at, take_all, take_more}
-use Rattle.cell_shards.specs.CellLives.{standing_in}
-use Rattle.census.specs.Counts.{Counts}
-use Rattle.instruction_set.specs.declared.letter.Letter.{Letter}
-use Rattle.logic_tasks.specs.TaskSet.{has_task}
-use Rattle.organism.specs.OrganismState.{OrganismState}
-use Rattle.world_rules.specs.Lives.{merit_in, with_id}
-use Rattle.world_rules.specs.World.{Occupant}
-use Rattle.world_core.specs.Population.{CanCountChange, CountsChange, IsKeptOf, is_credited, occupant_genome, occupant_genomes}
+use Rattle.world_core.proofs.Prelude.{map-set_same, drop_all, drop_more, get_or_at, length-append, length-drop, length-take-le, set_at, take_all, take_more, standing_in, Counts, Letter, has_task, OrganismState, merit_in, with_id, Occupant, CanCountChange, CountsChange, IsKeptOf, is_credited, occupant_genome, occupant_genomes}
 use Rattle.world_core.proofs.KeptOfLemmas.{IsKeptOf-empty, IsKeptOf-lived, IsKeptOf-removed, can-remove}
 use Rattle.world_core.proofs.StandingLemmas.{OneList}
 use Rattle.world_core.proofs.SumLemmas.{AreSummedIn-renewed, AreSummedIn-same, can-renew}

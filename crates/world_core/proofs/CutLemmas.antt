@@ -1,14 +1,6 @@
 -- Cells that are cut into jobs, from the last to the first.
 use Rattle.std.proofs.Common.{◌≡◌, ◌∙◌, sym, ap, ℕ, ◌+◌, ◌-◌, ◌<◌, ◌≤◌, ◌^◌, List, [], ◌∷◌, ◌++◌, append_assoc, length, reverse, take, drop, Option, arith}
-use Rattle.std.specs.List.{All}
-use Rattle.std.proofs.lemmas.List.{get_or_append_left, length-append, length-drop, length-take-le, length_push, reverse-append, take-append-drop}
-use Rattle.std.proofs.lemmas.List.Elements.{All-cons, All-nil, All-tail}
-use Rattle.cell_shards.specs.CellLives.{IsYoung}
-use Rattle.cell_shards.specs.Finishing.{CanRun}
-use Rattle.cell_shards.specs.declared.job.Job.{Job}
-use Rattle.genotype_bank.specs.Seats.{SeatValue}
-use Rattle.organism.specs.OrganismState.{OrganismState}
-use Rattle.world_core.specs.Sharding.{LieSideBySide, seat_from, seat_without}
+use Rattle.world_core.proofs.Prelude.{All, get_or_append_left, length-append, length-drop, length-take-le, length_push, reverse-append, take-append-drop, All-cons, All-nil, All-tail, IsYoung, CanRun, Job, SeatValue, OrganismState, LieSideBySide, seat_from, seat_without}
 use Rattle.world_core.proofs.JoinLemmas.{cells_in, slices_in}
 
 -- where all cells may run, those of each job may

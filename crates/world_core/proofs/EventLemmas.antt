@@ -1,25 +1,9 @@
 -- The events of an update, one after another.
 use Rattle.std.proofs.Common.{◌≡◌, refl, sym, ◌∙◌, ap, ℕ, ◌+◌, ◌-◌, ◌*◌, ◌<◌, ◌≤◌, true, false, ◌&&◌, nat_le, List, ◌∷◌, ◌++◌, length, drop, get_or, fold, filter, append_assoc, arith}
 use Rattle.std.specs.Prelude.{◌==◌}
-use Rattle.std.specs.List.{scan, flat_map, enumerate_from}
-use Rattle.std.proofs.lemmas.Bool.{leb-true, and_parts}
-use Rattle.std.proofs.lemmas.List.{at_drop_more, get_or-map, length-map}
-use Rattle.std.proofs.lemmas.List.Concat.{flat_map-append}
-use Rattle.std.proofs.lemmas.List.Elements.{All-get_or}
+use Rattle.world_core.proofs.Prelude.{scan, flat_map, enumerate_from, leb-true, and_parts, at_drop_more, get_or-map, length-map, flat_map-append, All-get_or, lines_text, line_text, Event, frame_of, Frame, EventValue, WhatValue, inject, clear, rate, event_value, event_values, event_fits, what_fits, what_value, values_of, ConfigValues, event_lines, lines_of_event, what_lines, Scene, events_at, after_event, after_events, after_what, CanHappen}
 use Rattle.std.proofs.lemmas.Nat.{mul-le}
-use Rattle.lineage_log.specs.LogGrammar.{lines_text}
-use Rattle.log_lines.specs.LineText.{line_text}
 use Rattle.world_config.specs.declared.config.Config.{Config}
-use Rattle.world_config.specs.declared.event.Event.{Event}
-use Rattle.world_config.specs.Bounds.{frame_of}
-use Rattle.world_config.specs.Events.{EventValue, WhatValue, inject, clear, rate, event_value, event_values, event_fits, what_fits, what_value}
-use Rattle.world_config.specs.KeyTable.{Frame}
-use Rattle.world_config.specs.Shown.{values_of}
-use Rattle.world_config.specs.Values.{ConfigValues}
-use Rattle.world_rules.specs.LogText.{event_lines, lines_of_event, what_lines}
-use Rattle.world_rules.specs.Scene.{Scene}
-use Rattle.world_rules.specs.Update.{events_at, after_event, after_events, after_what}
-use Rattle.world_core.specs.Happening.{CanHappen}
 
 -- the events of an update among these, numbered from n
 abbrev pub coming : ℕ → ℕ → List Event → List (ℕ × EventValue)

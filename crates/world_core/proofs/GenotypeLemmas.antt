@@ -1,20 +1,7 @@
 -- A whole seat that interns more genomes.
 use Rattle.std.proofs.Common.{◌≡◌, ◌∙◌, refl, sym, ap, ℕ, zero, suc, ◌+◌, ◌<◌, ◌≤◌, cond, List, [], ◌∷◌, append-nil, fold, get_or, length, map, Some, arith, inl, inr}
 use Rattle.std.specs.Prelude.{nat_lt, slice_get}
-use Rattle.std.specs.List.{All, Contains}
-use Rattle.std.proofs.lemmas.Bool.{cases_lt}
-use Rattle.std.proofs.lemmas.Bool.Decides.{nat_tests}
-use Rattle.std.proofs.lemmas.List.{length-append}
-use Rattle.std.proofs.lemmas.List.Elements.{All-cons, All-head, All-nil, All-tail, Contains-append_cases, Contains-get_or}
-use Rattle.std.proofs.lemmas.Option.{slice_get-get_or, slice_get_within}
-use Rattle.cell_shards.specs.Finishing.{genome_in}
-use Rattle.cell_shards.specs.declared.delivered.Delivered.{Delivered}
-use Rattle.instruction_set.specs.declared.letter.Letter.{Letter}
-use Rattle.genotype_bank.specs.declared.view.Entry.{Entry}
-use Rattle.genotype_bank.specs.BankHistory.{genotypes_of, with_genome}
-use Rattle.genotype_bank.specs.Seats.{NumbersAgree, SeatValue}
-use Rattle.world_core.specs.Genotypes.{HasNumber, TakesIn}
-use Rattle.world_core.specs.Population.{AreDifferent}
+use Rattle.world_core.proofs.Prelude.{All, Contains, cases_lt, nat_tests, length-append, All-cons, All-head, All-nil, All-tail, Contains-append_cases, Contains-get_or, slice_get-get_or, slice_get_within, genome_in, Delivered, Letter, Entry, genotypes_of, with_genome, NumbersAgree, SeatValue, HasNumber, TakesIn, AreDifferent}
 use Rattle.world_core.proofs.StandingLemmas.{prefix-stays}
 
 -- no two numbers have one genome

@@ -1,15 +1,6 @@
 -- A bank that grows with the list of all organisms.
 use Rattle.std.proofs.Common.{◌≡◌, refl, List, [], ◌∷◌, ◌++◌, append-nil, map}
-use Rattle.std.proofs.lemmas.List.{map_push}
-use Rattle.cell_shards.specs.Finishing.{genome_in}
-use Rattle.cell_shards.specs.declared.delivered.Delivered.{Delivered}
-use Rattle.genotype_bank.specs.BankHistory.{HasEachOnce, with_genome}
-use Rattle.instruction_set.specs.declared.letter.Letter.{Letter}
-use Rattle.lineage_log.specs.Links.{Link}
-use Rattle.organism.specs.OrganismState.{OrganismState}
-use Rattle.world_rules.specs.Scene.{Scene, with_newcomer}
-use Rattle.world_core.specs.Genotypes.{TakesIn, genomes_ever}
-use Rattle.world_core.specs.Scenes.{Grows}
+use Rattle.world_core.proofs.Prelude.{map_push, genome_in, Delivered, HasEachOnce, with_genome, Letter, Link, OrganismState, Scene, with_newcomer, TakesIn, genomes_ever, Grows}
 use Rattle.world_core.proofs.JoinLemmas.{IsPrefix-trans, each-through}
 use Rattle.world_core.proofs.StandingLemmas.{with_genome-prefix}
 

@@ -1,9 +1,7 @@
 -- Who stands in a cell, by the cell's id.
 use Rattle.std.proofs.Common.{◌≡◌, ℕ, ◌<◌, Option, None, Some, List, length, get_or}
 use Rattle.std.specs.Prelude.{slice_get}
-use Rattle.std.proofs.lemmas.Option.{slice_get-get_or}
-use Rattle.world_rules.specs.World.{Occupant, id_of, id_at}
-use Rattle.world_laws.specs.Turnover.{IsStanding}
+use Rattle.world_core.proofs.Prelude.{slice_get-get_or, Occupant, id_of, id_at, IsStanding}
 
 -- the id of a cell is that of an organism that stands in it
 pub stands_by_id : (cells : List (Option Occupant)) (cell id : ℕ) → cell < length cells

@@ -1,26 +1,7 @@
 -- Jobs that part the cells, and what comes of them as one.
 use Rattle.std.proofs.Common.{◌≡◌, ◌∙◌, refl, sym, ap, ℕ, suc, ◌+◌, ◌≤◌, List, [], ◌∷◌, ◌++◌, append_assoc, length, map, Option, arith, inl, inr}
 use Rattle.std.specs.Prelude.{◌↔◌}
-use Rattle.std.specs.List.{All, Contains, flat_map, sum_by}
-use Rattle.std.specs.List.Sorted.{IsPermutation}
-use Rattle.std.proofs.lemmas.Grind.{common_steps}
-use Rattle.std.proofs.lemmas.List.{map-append}
-use Rattle.std.proofs.lemmas.List.Elements.{All-cons, All-nil, Contains-append_cases, Contains-append_left, Contains-append_right, filter_map-append}
-use Rattle.std.proofs.lemmas.List.Sorted.{IsPermutation-refl, IsPermutation-sym}
-use mathlib.Core.List.{IsPrefix}
-use Rattle.cell_shards.specs.CellLives.{RoundNumbers, births_from, deaths_from, left_in, part_from, shard_lives_of, standing_in}
-use Rattle.cell_shards.specs.Finishing.{AreFinished, IsFinished, IsNumbered, birth_of, call_for, genome_in, part_of}
-use Rattle.cell_shards.specs.declared.delivered.Delivered.{Delivered}
-use Rattle.cell_shards.specs.declared.finished.Finished.{Finished}
-use Rattle.cell_shards.specs.declared.job.Job.{Job}
-use Rattle.genotype_bank.specs.BankHistory.{HasEachOnce, calls_under, genomes_of, genotypes_of}
-use Rattle.genotype_bank.specs.Seats.{SeatValue, own_calls_of}
-use Rattle.genotype_bank.specs.declared.view.Entry.{Entry}
-use Rattle.instruction_set.specs.declared.letter.Letter.{Letter}
-use Rattle.organism.specs.OrganismState.{OrganismState}
-use Rattle.organism.specs.OrganismLife.{OrganismLife}
-use Rattle.world_core.specs.Genotypes.{TakesIn}
-use Rattle.world_core.specs.Sharding.{IsJoined, LieSideBySide, PartCells, ShareSeat, seat_from}
+use Rattle.world_core.proofs.Prelude.{All, Contains, flat_map, sum_by, IsPermutation, common_steps, map-append, All-cons, All-nil, Contains-append_cases, Contains-append_left, Contains-append_right, filter_map-append, IsPermutation-refl, IsPermutation-sym, IsPrefix, RoundNumbers, births_from, deaths_from, left_in, part_from, shard_lives_of, standing_in, AreFinished, IsFinished, IsNumbered, birth_of, call_for, genome_in, part_of, Delivered, Finished, Job, HasEachOnce, calls_under, genomes_of, genotypes_of, SeatValue, own_calls_of, Entry, Letter, OrganismState, OrganismLife, TakesIn, IsJoined, LieSideBySide, PartCells, ShareSeat, seat_from}
 
 -- what the crate of shards says of parts that lie side by side, in its own words
 abbrev pub PartsLaws : Type 0

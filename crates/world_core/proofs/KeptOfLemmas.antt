@@ -1,16 +1,8 @@
 -- What is kept of who stands in the cells, as one of them changes.
 use Rattle.std.proofs.Common.{◌≡◌, ◌∙◌, sym, ap, Result, Ok, Err, OnOk, ℕ, ◌<◌, ◌≤◌, ◌^◌, List, [], length, set, get_or, Option, Some, None, is_some, replicate, arith}
+use Rattle.world_core.proofs.Prelude.{get_or_read, map-set, length-map, set-get_or, count_by-le-length, CanAdd, CanRemove, HasOneFewer, HasOneMore, Counts, Letter, Occupant, IsPrefix, with_genome, IsKeptOf, AreDifferent, AreSummedIn, occupant_genome, occupant_genomes}
 use Rattle.std.proofs.Math.ListN.{get_or-map}
-use Rattle.std.proofs.lemmas.List.{get_or_read, map-set, length-map, set-get_or}
 use Rattle.std.specs.Prelude.{OnErr, slice_get}
-use Rattle.std.proofs.lemmas.List.Sums.{count_by-le-length}
-use Rattle.census.specs.Changes.{CanAdd, CanRemove, HasOneFewer, HasOneMore}
-use Rattle.census.specs.Counts.{Counts}
-use Rattle.instruction_set.specs.declared.letter.Letter.{Letter}
-use Rattle.world_rules.specs.World.{Occupant}
-use mathlib.Core.List.{IsPrefix}
-use Rattle.genotype_bank.specs.BankHistory.{with_genome}
-use Rattle.world_core.specs.Population.{IsKeptOf, AreDifferent, AreSummedIn, occupant_genome, occupant_genomes}
 use Rattle.world_core.proofs.ChangeLemmas.{AreCountedIn-put, AreCountedIn-removed}
 use Rattle.world_core.proofs.StandingLemmas.{OneList, AreCountedIn-more, AreCountedIn-none, some-counted, with_genome-prefix}
 use Rattle.world_core.proofs.SumLemmas.{AreSummedIn-none, AreSummedIn-put, AreSummedIn-removed, credited-counted, map-replicate, merit-counted, merit-room, tasks-room}

@@ -1,3 +1,4 @@
+pub mod Prelude
 pub mod ScanLemmas
 pub mod BoundedCells
 mod ComingLemmas

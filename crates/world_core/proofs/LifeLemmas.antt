@@ -1,10 +1,7 @@
 -- What lives need to know of their world.
 use Rattle.std.proofs.Common.{◌≡◌, ℕ, ◌*◌, ◌<◌, ◌≤◌, ◌^◌, List, length, sum, arith, ap}
-use Rattle.std.specs.List.{All}
-use Rattle.std.proofs.lemmas.List.Sums.{sum_by-le}
+use Rattle.world_core.proofs.Prelude.{All, sum_by-le, ConfigValues, settings_at}
 use Rattle.organism.specs.SettingNumbers.{SettingNumbers}
-use Rattle.world_config.specs.Values.{ConfigValues}
-use Rattle.world_rules.specs.Settings.{settings_at}
 
 -- the greatest length of a genome in an update is the configuration's own
 pub greatest_of : (config : ConfigValues) (update : ℕ) (settings : SettingNumbers)

@@ -1,28 +1,7 @@
 -- What the shards leave is what a world's lives leave.
 use Rattle.std.proofs.Common.{◌≡◌, ◌∙◌, refl, sym, ap, ℕ, ◌+◌, ◌<◌, ◌≤◌, ◌^◌, Bool, true, false, cond, List, [], ◌∷◌, length, map, get_or, Option, Some, None, arith}
-use Rattle.std.specs.List.{All, range_with_len, flat_map, enumerate_from}
+use Rattle.world_core.proofs.Prelude.{All, range_with_len, flat_map, enumerate_from, length-map, map-id, All-cons, All-head, All-map, All-nil, All-tail, length-map-range_with_len, IsYoung, RoundNumbers, births_from, dead_in, deaths_from, left_in, newborns_in, part_from, shard_life_at, shard_life_of, shard_lives_of, standing_in, birth_of, Delivered, Standing, slices_of, OrganismState, OrganismLife, ConfigValues, CellLife, life_at, lives_of, merit_in, no_life, slice_at, slices_at, with_id, organism_in, births_in, births_of, Occupant, AreBounded, IsBoundedIn, occupants_of, merit_or_zero, occupant_genome, birth_by, delivered_in, delivery_in, departed_from, departed_in, departure_by, round_of, staying_in, Birth, Departure}
 use Rattle.std.proofs.Math.ListN.{get_or-map}
-use Rattle.std.proofs.lemmas.List.{length-map, map-id}
-use Rattle.std.proofs.lemmas.List.Elements.{All-cons, All-head, All-map, All-nil, All-tail}
-use Rattle.std.proofs.lemmas.List.FromFn.{length-map-range_with_len}
-use Rattle.cell_shards.specs.CellLives.{IsYoung, RoundNumbers, births_from, dead_in, deaths_from, left_in, newborns_in, part_from, shard_life_at, shard_life_of, shard_lives_of, standing_in}
-use Rattle.cell_shards.specs.Finishing.{birth_of}
-use Rattle.cell_shards.specs.declared.delivered.Delivered.{Delivered}
-use Rattle.cell_shards.specs.declared.standing.Standing.{Standing}
-use Rattle.merit_slices.specs.Slices.{slices_of}
-use Rattle.organism.specs.OrganismState.{OrganismState}
-use Rattle.organism.specs.OrganismLife.{OrganismLife}
-use Rattle.world_config.specs.Values.{ConfigValues}
-use Rattle.world_rules.specs.Lives.{CellLife, life_at, lives_of, merit_in, no_life, slice_at, slices_at, with_id}
-use Rattle.world_rules.specs.Statistics.{organism_in}
-use Rattle.world_rules.specs.Update.{births_in, births_of}
-use Rattle.world_rules.specs.World.{Occupant}
-use Rattle.world_core.specs.Bounds.{AreBounded, IsBoundedIn}
-use Rattle.world_core.specs.CellTables.{occupants_of}
-use Rattle.world_core.specs.Lived.{birth_by, delivered_in, delivery_in, departed_from, departed_in, departure_by, round_of, staying_in}
-use Rattle.world_core.specs.Population.{merit_or_zero, occupant_genome}
-use Rattle.world_core.specs.declared.ids.Birth.{Birth}
-use Rattle.world_core.specs.declared.ids.Departure.{Departure}
 use Rattle.world_core.proofs.BirthOrderLemmas.{map-both}
 use Rattle.world_core.proofs.CellTableLemmas.{merits-of, occupants_of-at, occupants_of-length, organism-with}
 use Rattle.world_core.proofs.CountLemmas.{GoesOn}

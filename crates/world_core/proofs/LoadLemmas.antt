@@ -1,7 +1,6 @@
 -- How much work the lives of an update are.
 use Rattle.std.proofs.Common.{ℕ, zero, suc, ◌+◌, ◌*◌, ◌≤◌, List, [], ◌∷◌, length, map, sum, arith}
-use Rattle.std.proofs.lemmas.List.Sums.{sum_by-cons}
-use Rattle.world_core.specs.Sharding.{load_of}
+use Rattle.world_core.proofs.Prelude.{sum_by-cons, load_of}
 
 -- a cell's load
 load-one : (steps : ℕ) → load_of steps ≤ steps + 16

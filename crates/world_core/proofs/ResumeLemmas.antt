@@ -1,20 +1,6 @@
 -- A saved world goes on as its run would.
 use Rattle.std.proofs.Common.{◌≡◌, ◌∙◌, sym, ap, subst, ℕ, ◌+◌, ◌≤◌, List, Option, length, replicate, arith}
-use Rattle.std.proofs.lemmas.List.{length-replicate}
-use Rattle.lineage_log.specs.Links.{Link}
-use Rattle.lineage_log.specs.LogGrammar.{lines_text}
-use Rattle.log_lines.specs.declared.stats.Stats.{Stats}
-use Rattle.saved_worlds.specs.Resuming.{forgotten, next_state, next_text}
-use Rattle.saved_worlds.specs.SavedState.{SavedState, head_at, state_of, state_of_world}
-use Rattle.saved_worlds.specs.ValidState.{CanGoOn}
-use Rattle.world_config.specs.Values.{ConfigValues}
-use Rattle.world_rules.specs.LogText.{update_lines}
-use Rattle.world_rules.specs.Update.{next_scene, next_world, world_of}
-use Rattle.world_rules.specs.World.{Occupant, World}
-use Rattle.world_rules.specs.WorldRun.{world_after}
-use Rattle.world_core.specs.Resumed.{IsState, KeepsPast, state_in}
-use Rattle.world_core.specs.Scenes.{SceneValue, scene_in}
-use Rattle.world_core.specs.WorldValue.{IsWorldOf}
+use Rattle.world_core.proofs.Prelude.{length-replicate, Link, lines_text, Stats, forgotten, next_state, next_text, SavedState, head_at, state_of, state_of_world, CanGoOn, ConfigValues, update_lines, next_scene, next_world, world_of, Occupant, World, world_after, IsState, KeepsPast, state_in, SceneValue, scene_in, IsWorldOf}
 use Rattle.world_core.proofs.WorldLemmas.{world_of-next}
 
 -- the update and all organisms ever stay once more

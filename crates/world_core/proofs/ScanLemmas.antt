@@ -1,10 +1,6 @@
 -- A scan beside the fold of its states, one element after another.
 use Rattle.std.proofs.Common.{◌≡◌, refl, ap, ℕ, ◌+◌, ◌<◌, List, [], ◌∷◌, ◌++◌, length, take, get_or, fold, Option, None, Some, append_assoc, append-nil}
-use Rattle.std.specs.List.{scan, filter_map, flat_map}
-use Rattle.std.specs.Option.{option_to_list}
-use Rattle.std.proofs.lemmas.List.{take_more}
-use Rattle.std.proofs.lemmas.List.Concat.{flat_map-append}
-use Rattle.std.proofs.lemmas.List.Elements.{filter_map-append}
+use Rattle.world_core.proofs.Prelude.{scan, filter_map, flat_map, option_to_list, take_more, flat_map-append, filter_map-append}
 
 -- the outputs of a list and of one behind it
 pub scan-append : {S X Y : Type 0} (next : S → X → S) (out : S → X → Y) (a : S) (xs ys : List X)

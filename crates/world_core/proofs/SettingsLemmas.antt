@@ -1,17 +1,9 @@
 -- The rates that the events of a configuration set.
 use Rattle.std.proofs.Common.{◌≡◌, ◌∙◌, ℕ, ◌<◌, ◌≤◌, ◌&&◌, nat_le, nat_lt, true, List, length, get_or, map, filter, fold, sym, ap}
-use Rattle.std.specs.List.{AllPass}
-use Rattle.std.proofs.lemmas.Bool.{leb-true, and_parts}
-use Rattle.std.proofs.lemmas.List.{get_or-map, length-map}
-use Rattle.std.proofs.lemmas.List.Elements.{All-get_or}
+use Rattle.world_core.proofs.Prelude.{AllPass, leb-true, and_parts, get_or-map, length-map, All-get_or, RateNumbers, Event, event_value, event_values, event_fits, what_fits, what_value, Frame, rates_after}
 use Rattle.mutations.specs.declared.rate_name.RateName.{RateName}
-use Rattle.mutations.specs.Rates.{RateNumbers}
-use Rattle.world_config.specs.declared.event.Event.{Event}
 use Rattle.world_config.specs.declared.event.What.{What}
 use Rattle.world_config.specs.declared.event.What.TheVariants.{Rate}
-use Rattle.world_config.specs.Events.{event_value, event_values, event_fits, what_fits, what_value}
-use Rattle.world_config.specs.KeyTable.{Frame}
-use Rattle.world_rules.specs.Settings.{rates_after}
 
 -- the rates after the events before an update, among some events
 abbrev pub rates_by : RateNumbers → ℕ → List Event → RateNumbers

@@ -1,21 +1,6 @@
 -- The lives of a world's cells are those of its shards, with the ids of the cells.
 use Rattle.std.proofs.Common.{◌≡◌, ◌∙◌, refl, ℕ, zero, suc, ◌+◌, Bool, true, false, cond, List, [], ◌∷◌, ◌++◌, length, map, get_or, Option, Some, None, arith}
-use Rattle.std.specs.List.{range_with_len, flat_map, enumerate_from}
-use Rattle.std.proofs.lemmas.List.{map-append}
-use Rattle.cell_shards.specs.CellLives.{born_in, dead_in, left_in, newborns_in, shard_life_of}
-use Rattle.organism.specs.Lived.{beginning}
-use Rattle.organism.specs.Newborns.{NewbornValue}
-use Rattle.organism.specs.OrganismState.{OrganismState}
-use Rattle.organism.specs.UpdateLife.{life}
-use Rattle.organism.specs.OrganismLife.{OrganismLife, ended_life, life_by}
-use Rattle.random_streams.specs.declared.purpose.Purpose.TheVariants.{Run}
-use Rattle.random_streams.specs.RandomStream.{draw}
-use Rattle.world_config.specs.Values.{ConfigValues}
-use Rattle.world_rules.specs.Lives.{CellLife, life_of, with_id}
-use Rattle.world_rules.specs.Settings.{settings_at}
-use Rattle.world_rules.specs.Update.{Delivery, births_in, delivery_of}
-use Rattle.world_core.specs.CellTables.{occupants_of}
-use Rattle.world_core.specs.Lived.{departed_in, departure, departure_by, round_of, staying_in}
+use Rattle.world_core.proofs.Prelude.{range_with_len, flat_map, enumerate_from, map-append, born_in, dead_in, left_in, newborns_in, shard_life_of, beginning, OrganismLife, ended_life, life_by, NewbornValue, OrganismState, life, Run, draw, ConfigValues, CellLife, life_of, with_id, settings_at, Delivery, births_in, delivery_of, occupants_of, departed_in, departure, departure_by, round_of, staying_in}
 use Rattle.world_core.proofs.BirthOrderLemmas.{map-both}
 
 -- a newborn of a cell, with the id of the cell

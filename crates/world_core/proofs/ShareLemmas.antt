@@ -1,10 +1,7 @@
 -- Where shards start.
 use Rattle.std.proofs.Common.{◌≡◌, ◌∙◌, sym, ap, ℕ, zero, suc, ◌+◌, ◌<◌, ◌≤◌, List, [], ◌∷◌, ◌++◌, length, map, max, reverse, sum, take, arith, ◌⊎◌, inl, inr}
+use Rattle.world_core.proofs.Prelude.{length-take-le, take-take, first_cell, Job, FollowShares, load_before, load_of, share_before}
 use Rattle.std.proofs.Math.Nat.{div-eq_of_lt, eq-or-lt_of_le, max-eq_left}
-use Rattle.std.proofs.lemmas.List.{length-take-le, take-take}
-use Rattle.cell_shards.specs.Shards.{first_cell}
-use Rattle.cell_shards.specs.declared.job.Job.{Job}
-use Rattle.world_core.specs.Sharding.{FollowShares, load_before, load_of, share_before}
 use Rattle.world_core.proofs.CutLemmas.{jobs-push}
 
 -- where there is no load, a load of 1 has the same shares

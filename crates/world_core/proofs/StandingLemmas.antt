@@ -1,20 +1,7 @@
 -- The genotypes that are counted, beside the genomes that stand and those that have a number.
 use Rattle.std.proofs.Common.{◌≡◌, ◌∙◌, refl, sym, ap, subst, ℕ, zero, suc, ◌<◌, true, List, [], ◌∷◌, ◌++◌, append-nil, length, get_or, Option, Some, None, is_some, replicate, arith, rules, inl, inr}
 use Rattle.std.specs.Prelude.{IsSome, slice_get}
-use Rattle.std.specs.Bool.{Decides}
-use mathlib.Core.List.{IsPrefix}
-use Rattle.std.specs.List.{count_by, list_any}
-use Rattle.std.specs.Option.{option_map, unwrap_or}
-use Rattle.std.proofs.lemmas.Bool.{cases_Bool, cases_lt}
-use Rattle.std.proofs.lemmas.List.{length-replicate}
-use Rattle.std.proofs.lemmas.List.Folds.{sum_by-replicate}
-use Rattle.std.proofs.lemmas.List.Sums.{sum_by-cons, get_or-le-sum_by}
-use Rattle.census.specs.Counts.{GenotypeCount, genotype_at}
-use Rattle.census.specs.Changes.{count_under, genome_under}
-use Rattle.instruction_set.specs.declared.letter.Letter.{Letter}
-use Rattle.instruction_set.specs.Letter.{same_letters}
-use Rattle.genotype_bank.specs.BankHistory.{with_genome}
-use Rattle.world_core.specs.Population.{AreCountedIn, AreDifferent, is_genome}
+use Rattle.world_core.proofs.Prelude.{Decides, IsPrefix, count_by, list_any, option_map, unwrap_or, cases_Bool, cases_lt, length-replicate, sum_by-replicate, sum_by-cons, get_or-le-sum_by, GenotypeCount, genotype_at, count_under, genome_under, Letter, same_letters, with_genome, AreCountedIn, AreDifferent, is_genome}
 use Rattle.world_core.proofs.SumLemmas.{one}
 
 -- the test of two lists of letters tells which are one list

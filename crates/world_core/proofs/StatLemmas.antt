@@ -1,32 +1,13 @@
 -- What is kept of who stands in the cells shows what is counted of them anew.
 use Rattle.std.proofs.Common.{◌≡◌, ◌∙◌, refl, sym, ap, subst, ℕ, zero, suc, ◌<◌, List, [], ◌∷◌, length, map, get_or, Option, Some, None, is_some, arith, inl, inr}
 use Rattle.std.specs.Prelude.{nat_eq}
-use Rattle.std.specs.Bool.{Decides}
+use Rattle.world_core.proofs.Prelude.{Decides, Contains, IsDistinct, list_any, sum_by, count_by, cases_Bool, eqb-false, eqb-true, false_from_ne_true, Decides-like, same_from_decides, length-map, get_or-map, Contains-get_or, sum_by-cons, get_or-le-sum_by, AreGenotypes, GenotypeCount, genotype_at, HaveSameMembers, different_of, HasEachOnce, Letter, same_letters, Task, has_task, OrganismState, Occupant, ids_of, merit_in, counted_in, credited_with, genomes_of_cells, organisms_in, AreCountedIn, occupant_genomes}
 use Rattle.std.specs.Cmp.{IsEquivalence, nat_eq_equiv}
-use Rattle.std.specs.List.{Contains, IsDistinct, list_any, sum_by, count_by}
 use Rattle.std.specs.Map.{keys_of, values_of}
-use Rattle.std.proofs.lemmas.Bool.{cases_Bool, eqb-false, eqb-true, false_from_ne_true}
-use Rattle.std.proofs.lemmas.Bool.Decides.{Decides-like, same_from_decides}
-use Rattle.std.proofs.lemmas.List.{length-map, get_or-map}
-use Rattle.std.proofs.lemmas.List.Elements.{Contains-get_or}
-use Rattle.std.proofs.lemmas.List.Sums.{sum_by-cons, get_or-le-sum_by}
 use Rattle.std.proofs.lemmas.Map.Keys.{IsDistinct-from_apart, apart_from_distinct}
 use Rattle.std.proofs.lemmas.Map.Made.{Contains-from_values_of, Contains-values_of, length-from_same_keys}
 use Rattle.std.proofs.lemmas.Map.Views.{Contains-from_lookup, lookup-from_Contains, list_any-from_Contains, Contains-from_any}
-use Rattle.census.specs.Counts.{AreGenotypes, GenotypeCount, genotype_at}
-use Rattle.census.specs.Dominance.{HaveSameMembers}
-use Rattle.genome.specs.Genomes.{different_of}
-use Rattle.genotype_bank.specs.BankHistory.{HasEachOnce}
-use Rattle.instruction_set.specs.declared.letter.Letter.{Letter}
-use Rattle.instruction_set.specs.Letter.{same_letters}
-use Rattle.lineage_log.specs.Slots.{taken}
-use Rattle.logic_tasks.specs.declared.task.Task.{Task}
-use Rattle.logic_tasks.specs.TaskSet.{has_task}
-use Rattle.organism.specs.OrganismState.{OrganismState}
-use Rattle.world_rules.specs.World.{Occupant, ids_of}
-use Rattle.world_rules.specs.Lives.{merit_in}
-use Rattle.world_rules.specs.Statistics.{counted_in, credited_with, genomes_of_cells, organisms_in}
-use Rattle.world_core.specs.Population.{AreCountedIn, occupant_genomes}
+use Rattle.lineage_log.specs.Reader.{taken}
 use Rattle.world_core.proofs.StandingLemmas.{OneList, cells_of, count_in, is_found}
 use Rattle.world_core.proofs.SumLemmas.{cells_with, one}
 

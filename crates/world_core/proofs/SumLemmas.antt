@@ -1,21 +1,9 @@
 -- The sums over the cells, as one of them changes.
 use Rattle.std.proofs.Common.{◌≡◌, ◌∙◌, refl, sym, ap, ℕ, zero, suc, ◌+◌, ◌-◌, ◌*◌, ◌<◌, ◌≤◌, ◌^◌, Bool, true, false, cond, List, [], ◌∷◌, length, map, set, get_or, Option, Some, None, replicate, get_or-set_same, lt-length-set, set-set, arith}
 use Rattle.std.specs.Prelude.{slice_index}
+use Rattle.world_core.proofs.Prelude.{All, count_by, length-set, length-replicate, All-map, All-replicate, All-same, All-set, sum_by-replicate, sum_by-set, sum_by-le, get_or-le-sum_by, count_by-le-length, AreCounted, CanRenew, tasks_with, tasks_without, GenotypeCount, Task, all_tasks, task_place, has_task, Occupant, merit_in, AreSummedIn, is_credited}
 use Rattle.std.specs.Int.{from_bool}
-use Rattle.std.specs.List.{All, count_by}
-use Rattle.std.proofs.lemmas.List.{length-set, length-replicate}
-use Rattle.std.proofs.lemmas.List.Elements.{All-map, All-replicate, All-same, All-set}
-use Rattle.std.proofs.lemmas.List.Folds.{sum_by-replicate}
-use Rattle.std.proofs.lemmas.List.Sums.{sum_by-set, sum_by-le, get_or-le-sum_by, count_by-le-length}
-use Rattle.census.specs.Changes.{AreCounted, CanRenew, tasks_with, tasks_without}
-use Rattle.census.specs.Counts.{GenotypeCount}
-use Rattle.logic_tasks.specs.declared.task.Task.{Task}
 use Rattle.logic_tasks.specs.declared.task.Task.TheVariants.{Not}
-use Rattle.logic_tasks.specs.LogicTasks.{all_tasks, task_place}
-use Rattle.logic_tasks.specs.TaskSet.{has_task}
-use Rattle.world_rules.specs.World.{Occupant}
-use Rattle.world_rules.specs.Lives.{merit_in}
-use Rattle.world_core.specs.Population.{AreSummedIn, is_credited}
 
 -- what two like functions make of a list
 pub map_alike : {A B : Type 0} (f g : A → B) → ((a : A) → f a ≡ g a) → (xs : List A)

@@ -1,17 +1,7 @@
 -- A turn of the count after lives, over what is read of the cell.
 use Rattle.std.proofs.Common.{◌≡◌, ◌∙◌, sym, ap, ℕ, ◌+◌, ◌<◌, ◌≤◌, List, length, map, get_or, Option, None, arith}
+use Rattle.world_core.proofs.Prelude.{get_or_read, length-map, RoundNumbers, left_in, part_from, shard_lives_of, standing_in, Standing, Counts, Letter, OrganismState, ConfigValues, with_id, Occupant, occupants_of, CanCountChange, CountsChange, IsKeptOf}
 use Rattle.std.proofs.Math.ListN.{get_or-map}
-use Rattle.std.proofs.lemmas.List.{get_or_read, length-map}
-use Rattle.cell_shards.specs.CellLives.{RoundNumbers, left_in, part_from, shard_lives_of, standing_in}
-use Rattle.cell_shards.specs.declared.standing.Standing.{Standing}
-use Rattle.census.specs.Counts.{Counts}
-use Rattle.instruction_set.specs.declared.letter.Letter.{Letter}
-use Rattle.organism.specs.OrganismState.{OrganismState}
-use Rattle.world_config.specs.Values.{ConfigValues}
-use Rattle.world_rules.specs.Lives.{with_id}
-use Rattle.world_rules.specs.World.{Occupant}
-use Rattle.world_core.specs.CellTables.{occupants_of}
-use Rattle.world_core.specs.Population.{CanCountChange, CountsChange, IsKeptOf}
 use Rattle.world_core.proofs.CellTableLemmas.{occupants_of-at, occupants_of-length}
 use Rattle.world_core.proofs.CountLemmas.{GoesOn, can-count, counted-again, mixed, mixed-all, mixed-at, mixed-length, mixed-step}
 use Rattle.world_core.proofs.LivedLemmas.{LiveApart, cells-long, lived-length}

@@ -1,18 +1,6 @@
 -- A finished shard behind another, as one.
 use Rattle.std.proofs.Common.{◌≡◌, ◌∙◌, refl, sym, ◌+◌, List, [], ◌∷◌, ◌++◌, append-nil, append_assoc, arith}
-use Rattle.std.specs.List.{All}
-use Rattle.std.specs.List.Sorted.{IsPermutation}
-use Rattle.std.proofs.lemmas.List.Elements.{All-append}
-use Rattle.std.proofs.lemmas.List.Sorted.{IsPermutation-append_left, IsPermutation-refl, IsPermutation-trans}
-use Rattle.std.proofs.lemmas.List.Sums.{sum_by-cons}
-use mathlib.Core.List.{IsPrefix}
-use Rattle.cell_shards.specs.Finishing.{IsNumbered, genome_in}
-use Rattle.cell_shards.specs.declared.delivered.Delivered.{Delivered}
-use Rattle.cell_shards.specs.declared.finished.Finished.{Finished}
-use Rattle.genotype_bank.specs.BankHistory.{genotypes_of}
-use Rattle.genotype_bank.specs.Seats.{own_calls_of}
-use Rattle.genotype_bank.specs.declared.view.Entry.{Entry}
-use Rattle.world_core.specs.Sharding.{IsJoined}
+use Rattle.world_core.proofs.Prelude.{All, IsPermutation, All-append, IsPermutation-append_left, IsPermutation-refl, IsPermutation-trans, sum_by-cons, IsPrefix, IsNumbered, genome_in, Delivered, Finished, genotypes_of, own_calls_of, Entry, IsJoined}
 use Rattle.world_core.proofs.JoinLemmas.{IsPrefix-trans, calls_in}
 use Rattle.world_core.proofs.StandingLemmas.{prefix-stays}
 

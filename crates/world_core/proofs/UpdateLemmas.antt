@@ -1,26 +1,7 @@
 -- What every phase of an update keeps, and how their texts join.
 use Rattle.std.proofs.Common.{◌≡◌, ◌∙◌, refl, ℕ, ◌+◌, List, [], ◌∷◌, ◌++◌, Option, length, map, append_assoc, append-nil, arith}
-use Rattle.std.specs.List.{fold}
+use Rattle.world_core.proofs.Prelude.{fold, length-map, length-map-range_with_len, lines_text, Link, Line, Count, Stats, line_text, OrganismState, Placing, EventValue, WhatValue, inject, clear, rate, ConfigValues, Occupant, World, Scene, cells_from, with_death, with_deaths, with_newcomer, CellLife, life_at, lives_of, next_stats, scene_stats, birth_lines, event_lines, lines_of_lives, update_lines, Delivery, after_lives, lives_after, births_of, turns_of, events_at, with_newborn, after_births, after_burials, after_what, after_event, after_events, last_scene, next_scene, scene_of_lives, departed_from, departure_line, staying_in, Departure}
 use Rattle.std.proofs.lemmas.Grind.{flat_map-append}
-use Rattle.std.proofs.lemmas.List.{length-map}
-use Rattle.std.proofs.lemmas.List.FromFn.{length-map-range_with_len}
-use Rattle.lineage_log.specs.LogGrammar.{lines_text}
-use Rattle.lineage_log.specs.Links.{Link}
-use Rattle.log_lines.specs.Line.{Line, Count}
-use Rattle.log_lines.specs.declared.stats.Stats.{Stats}
-use Rattle.log_lines.specs.LineText.{line_text}
-use Rattle.organism.specs.OrganismState.{OrganismState}
-use Rattle.birth_board.specs.declared.placing.Placing.{Placing}
-use Rattle.world_config.specs.Events.{EventValue, WhatValue, inject, clear, rate}
-use Rattle.world_config.specs.Values.{ConfigValues}
-use Rattle.world_rules.specs.World.{Occupant, World}
-use Rattle.world_rules.specs.Lives.{CellLife, life_at, lives_of}
-use Rattle.world_rules.specs.Scene.{Scene, cells_from, with_death, with_deaths, with_newcomer}
-use Rattle.world_rules.specs.Statistics.{next_stats, scene_stats}
-use Rattle.world_rules.specs.LogText.{birth_lines, event_lines, lines_of_lives, update_lines}
-use Rattle.world_rules.specs.Update.{Delivery, after_lives, lives_after, births_of, turns_of, events_at, with_newborn, after_births, after_burials, after_what, after_event, after_events, last_scene, next_scene, scene_of_lives}
-use Rattle.world_core.specs.Lived.{departed_from, departure_line, staying_in}
-use Rattle.world_core.specs.declared.ids.Departure.{Departure}
 use Rattle.world_core.proofs.BurialLemmas.{burial-lines-are, burials-are}
 
 -- a death leaves the update

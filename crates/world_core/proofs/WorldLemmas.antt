@@ -1,25 +1,9 @@
 -- The world after an update is again the world of its configuration.
 use Rattle.std.proofs.Common.{◌≡◌, ◌∙◌, refl, sym, ap, ℕ, ◌+◌, ◌-◌, ◌<◌, List, [], Result, IfOk, drop, length, add-one, arith, rules}
-use Rattle.std.proofs.lemmas.Result.{IfOk-at_ok}
-use Rattle.lineage_log.specs.Links.{Link}
-use Rattle.lineage_log.specs.Trees.{TreeValue}
-use Rattle.lineage_log.specs.LogGrammar.{lines_text}
-use Rattle.log_lines.specs.declared.stats.Stats.{Stats}
-use Rattle.world_config.specs.Values.{ConfigValues}
+use Rattle.world_core.proofs.Prelude.{IfOk-at_ok, Link, TreeValue, lines_text, Stats, ConfigValues, Scene, World, next_scene, next_world, world_of, world_after, next_stats, stats_of, update_lines, update_text, IsTreeOf, newcomers_of, scene_after, IsNext, IsLateTreeOf, IsLeftBehind, SceneValue, scene_in, IsWorldOf}
 use Rattle.world_config.specs.declared.limits.TheConstants.{GREATEST_UPDATES}
-use Rattle.world_rules.specs.Scene.{Scene}
-use Rattle.world_rules.specs.World.{World}
-use Rattle.world_rules.specs.Update.{next_scene, next_world, world_of}
-use Rattle.world_rules.specs.WorldRun.{world_after}
-use Rattle.world_rules.specs.Statistics.{next_stats, stats_of}
-use Rattle.world_rules.specs.LogText.{update_lines, update_text}
-use Rattle.world_tree.specs.WorldTrees.{IsTreeOf, newcomers_of, scene_after}
-use Rattle.world_core.specs.Endings.{IsNext}
-use Rattle.world_core.specs.LateTrees.{IsLateTreeOf, IsLeftBehind}
-use Rattle.world_core.specs.Scenes.{SceneValue, scene_in}
 use Rattle.world_core.specs.declared.late_tree.LateTree.{LateTree}
 use Rattle.world_core.specs.declared.late_tree.LateTree.TheVariants.{Behind, Grown}
-use Rattle.world_core.specs.WorldValue.{IsWorldOf}
 
 -- the world after one more update
 pub world_after-more : (config : ConfigValues) (n : ℕ)

@@ -1,12 +1,7 @@
 -- What holds of the numbers of every world, so that none leaves its range (docs/WORLD.md, "The end
 -- of an update").
 use Rattle.std.specs.Prelude.{◌≡◌, ℕ, ◌+◌, ◌*◌, ◌<◌, ◌≤◌, ◌^◌, All, Option, None, Some, List, length, map, slice_get}
-use Rattle.std.specs.List.Sorted.{IsNonDecreasing}
-use Rattle.instruction_set.specs.declared.letter.Letter.{Letter}
-use Rattle.organism.specs.OrganismState.{OrganismState}
-use Rattle.world_config.specs.Values.{ConfigValues}
-use Rattle.world_rules.specs.World.{Occupant}
-use Rattle.world_rules.specs.Update.{Delivery}
+use Rattle.world_core.specs.Prelude.{IsNonDecreasing, Letter, OrganismState, ConfigValues, Occupant, Delivery}
 
 -- after so many updates who stands in a cell has no greater age and merit, from a saved age on
 abbrev pub IsBoundedIn : ℕ → Option Occupant → Type 0

@@ -1,3 +1,4 @@
+pub mod Prelude
 pub use Rattle.birth_board.specs.Placement
 pub use Rattle.cell_shards.specs.CellLives
 pub use Rattle.cell_shards.specs.Finishing
@@ -15,7 +16,6 @@ pub use Rattle.world_config.specs.Values
 pub use Rattle.world_rules.specs.World
 pub use Rattle.world_rules.specs.Settings
 pub use Rattle.world_rules.specs.Lives
-pub use Rattle.world_rules.specs.Scene
 pub use Rattle.world_rules.specs.Update
 pub use Rattle.world_rules.specs.WorldRun
 pub use Rattle.world_rules.specs.Statistics
@@ -25,15 +25,8 @@ pub use Rattle.saved_worlds.specs.SavedGrammar
 pub use Rattle.saved_worlds.specs.Resuming
 pub use Rattle.saved_worlds.specs.ValidState
 pub mod Bounds
-pub mod WorldValue
-pub mod Genotypes
+pub mod Scenes
 pub mod Endings
 pub mod Population
-pub mod Happening
-pub mod CellTables
-pub mod Scenes
-pub mod Everyone
-pub mod Sharding
 pub mod LateTrees
-pub mod Lived
-pub mod Resumed
+pub mod Sharding

@@ -1,16 +1,21 @@
--- What is kept of the living beside their cells (docs/WORLD.md, "Statistics").
-use Rattle.std.specs.Prelude.{◌≡◌, ◌⊎◌, ℕ, ◌≤◌, ◌^◌, Bool, false, All, List, length, map, Option, None, Some, option_map, count_by, is_some, slice_get, slice_index, slice_index_or}
-use Rattle.std.specs.List.{sum_by}
+-- What is kept of the living beside their cells, and who stands in each cell, where organisms and
+-- ids are kept apart (docs/WORLD.md, "Statistics"; docs/ARCHITECTURE.md, "Shards").
+use Rattle.std.specs.Prelude.{◌≡◌, ℕ, List, length, map, Option, ◌⊎◌, ◌≤◌, ◌^◌, Bool, false, All, None, Some, option_map, count_by, is_some, slice_get, slice_index, slice_index_or}
+use Rattle.world_core.specs.Prelude.{zip, sum_by, standing_in, OrganismState, with_id, merit_in, Occupant, CanRemove, CanRenew, HasOneFewer, count_under, with_renewal, Counts, GenotypeCount, genotype_at, living_of, Letter}
 use Rattle.cell_shards.specs.declared.standing.Standing.{Standing}
-use Rattle.census.specs.Changes.{CanRemove, CanRenew, HasOneFewer, count_under, with_renewal}
-use Rattle.census.specs.Counts.{Counts, GenotypeCount, genotype_at, living_of}
-use Rattle.instruction_set.specs.declared.letter.Letter.{Letter}
 use Rattle.instruction_set.specs.Letter.{same_letters}
 use Rattle.logic_tasks.specs.declared.task.Task.{Task}
-use Rattle.logic_tasks.specs.LogicTasks.{all_tasks}
-use Rattle.logic_tasks.specs.TaskSet.{has_task}
-use Rattle.world_rules.specs.World.{Occupant}
-use Rattle.world_rules.specs.Lives.{merit_in}
+use Rattle.logic_tasks.specs.LogicTasks.{all_tasks, has_task}
+
+-- who stands in each cell, by the organisms and the ids of the cells
+abbrev pub occupants_of : List (Option OrganismState) → List ℕ → List (Option Occupant)
+occupants_of organisms ids = map (λ place. with_id place.1 place.0) (zip organisms ids)
+
+-- beside the organism of each cell are kept an id and what is counted of it
+pub record AreKeptBeside (organisms : List (Option OrganismState)) (ids : List ℕ)
+    (standings : List (Option Standing)) : Type 0 where
+  pub long : length ids ≡ length organisms
+  pub counted : standings ≡ map standing_in organisms
 
 -- who stands in each cell, and the genomes of the bank, each at the place that is its number
 pub record PopulationValue : Type 0 where

@@ -1,14 +1,9 @@
 -- How the jobs of an update part the cells and share a seat (docs/ARCHITECTURE.md, "Shards").
 use Rattle.std.specs.Prelude.{◌≡◌, ℕ, zero, suc, ◌+◌, ◌-◌, ◌<◌, ◌≤◌, ◌++◌, All, List, [], ◌∷◌, if◌then◌else◌, length, map, max, nat_eq, sum, take, Option}
-use Rattle.std.specs.List.{flat_map, sum_by}
-use Rattle.std.specs.List.Sorted.{IsPermutation}
-use mathlib.Core.List.{IsPrefix}
-use Rattle.cell_shards.specs.Finishing.{IsNumbered}
+use Rattle.world_core.specs.Prelude.{flat_map, sum_by, IsPermutation, IsPrefix, IsNumbered, SeatValue, own_calls_of, OrganismState}
 use Rattle.cell_shards.specs.declared.finished.Finished.{Finished}
 use Rattle.cell_shards.specs.declared.job.Job.{Job}
 use Rattle.cell_shards.specs.Shards.{first_cell}
-use Rattle.genotype_bank.specs.Seats.{SeatValue, own_calls_of}
-use Rattle.organism.specs.OrganismState.{OrganismState}
 
 -- how much work a life is, in steps: it begins with a random stream, which takes as long as some 16
 abbrev pub load_of : ℕ → ℕ

@@ -1,21 +1,10 @@
 // The newborns of an update are placed, one after another.
 ghost use Rattle.std.specs.Prelude.{◌≡◌, ◌+◌, ◌*◌, ◌++◌, ◌<◌, ◌≤◌, ◌^◌, All, OnOk, IfOk, length, map};
-ghost use Rattle.cell_shards.specs.Finishing.{genome_in};
-ghost use Rattle.genome.specs.Genome.{letters};
-ghost use Rattle.lineage_log.specs.LogGrammar.{lines_text};
+ghost use Rattle.world_core.specs.Prelude.{genome_in, letters, lines_text, line_text, record_of, new_organism, values_of, birth_line, birth_lines, next_id, standing_at, ids_of, placings_of, with_newborn, after_births};
 ghost use Rattle.log_lines.specs.Line as line;
-ghost use Rattle.log_lines.specs.LineText.{line_text};
-ghost use Rattle.mutations.specs.BirthRecord.{record_of};
-ghost use Rattle.organism.specs.OrganismState.{new_organism};
-ghost use Rattle.world_config.specs.Shown.{values_of};
-ghost use Rattle.world_rules.specs.LogText.{birth_line, birth_lines};
-ghost use Rattle.world_rules.specs.Scene.{next_id, standing_at};
-ghost use Rattle.world_rules.specs.Update.{placings_of, with_newborn, after_births};
-ghost use Rattle.world_rules.specs.World.{ids_of};
 ghost use Rattle.world_core.specs.Bounds.{IsDelivery, AreDeliveries};
-ghost use Rattle.world_core.specs.Genotypes.{HasNumber, genomes_ever};
-ghost use Rattle.world_core.specs.Lived.{delivered_in, delivery_in};
-ghost use Rattle.world_core.specs.Scenes.{scene_in};
+ghost use Rattle.world_core.specs.Scenes.{HasNumber, genomes_ever, scene_in};
+ghost use Rattle.world_core.specs.Endings.{delivered_in, delivery_in};
 
 use crate::cell_table::CellTable;
 use crate::ids::Birth;
@@ -111,7 +100,7 @@ fn board_of(alloc: Global, cells: &CellTable) -> Result<Occupants, Memory>
 }
 
 /// A newborn stands in the cell of its placing, with the next id, and has its line.
-#[tactic(auto, using(crate::proofs::BoundedCells::set_over), unfolding(world_rules::specs::Update::with_newborn, world_rules::specs::Scene::with_death, world_rules::specs::Scene::with_newcomer, organism::specs::OrganismState::new_organism))]
+#[tactic(auto, using(crate::proofs::BoundedCells::set_over), unfolding(world_rules::specs::Update::with_newborn, world_rules::specs::World::with_death, world_rules::specs::World::with_newcomer, organism::specs::OrganismState::new_organism))]
 fn place_newborn(
     alloc: Global,
     config: &Config,

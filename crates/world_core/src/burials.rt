@@ -1,7 +1,7 @@
 // Those that died of age have their lines.
 ghost use Rattle.std.specs.Prelude.{◌≡◌, ◌++◌, OnOk, map};
-ghost use Rattle.lineage_log.specs.LogGrammar.{lines_text};
-ghost use Rattle.world_core.specs.Lived.{departure_line};
+ghost use Rattle.world_core.specs.Prelude.{lines_text};
+ghost use Rattle.world_core.specs.Endings.{departure_line};
 
 use crate::ids::Departure;
 use crate::scene::Scene;

@@ -1,11 +1,8 @@
 // Who stands in each cell, the organisms apart from their ids and from what is counted of them.
 ghost use Rattle.std.specs.Prelude.{◌≡◌, ◌<◌, None, Some, IfOk, length, option_map, replicate, slice_index_or, slice_set};
-ghost use Rattle.cell_shards.specs.CellLives.{standing_in};
-ghost use Rattle.genome.specs.Genome.{letters};
-ghost use Rattle.world_rules.specs.Statistics.{organism_in};
-ghost use Rattle.world_rules.specs.World.{id_of, ids_of};
+ghost use Rattle.world_core.specs.Prelude.{standing_in, letters, organism_in, id_of, ids_of};
 ghost use Rattle.world_core.specs.Population.{occupant_genome};
-ghost use Rattle.world_core.specs.Resumed.{IsResidentIn};
+ghost use Rattle.world_core.specs.Scenes.{IsResidentIn};
 
 use avida_port::Memory;
 use cell_shards::{BoxedOrganism, Standing};
@@ -31,7 +28,7 @@ impl Model for CellTable {
 
     ghost Value = { List (Option Occupant) };
 
-    ghost use Rattle.world_core.specs.CellTables.{AreKeptBeside, occupants_of};
+    ghost use Rattle.world_core.specs.Population.{AreKeptBeside, occupants_of};
 
     ghost view = { λ r. occupants_of r.organisms.items r.ids.items };
 

@@ -1,15 +1,7 @@
 // The events of an update.
 ghost use Rattle.std.specs.Prelude.{◌≡◌, ◌+◌, ◌*◌, ◌++◌, ◌<◌, ◌≤◌, [], ◌∷◌, Some, OnOk, length};
-ghost use Rattle.std.specs.Option.{option_to_list};
-ghost use Rattle.genome.specs.Genome.{letters};
-ghost use Rattle.lineage_log.specs.LogGrammar.{lines_text};
-ghost use Rattle.log_lines.specs.Line.{Rate};
-ghost use Rattle.world_config.specs.Events.{what_value, inject, clear};
-ghost use Rattle.world_config.specs.Shown.{values_of};
-ghost use Rattle.world_rules.specs.LogText.{event_lines, what_lines, cleared_line};
-ghost use Rattle.world_rules.specs.Scene.{cells_from, with_deaths};
-ghost use Rattle.world_rules.specs.Update.{after_events, after_what};
-ghost use Rattle.world_core.specs.Happening.{CanHappen};
+ghost use Rattle.world_core.specs.Prelude.{option_to_list, letters, lines_text, Rate, what_value, inject, clear, values_of, event_lines, what_lines, cleared_line, cells_from, with_deaths, after_events, after_what};
+ghost use Rattle.world_core.specs.Endings.{CanHappen};
 ghost use Rattle.world_core.specs.Scenes.{Grows, scene_in};
 
 use crate::founding::found_in;

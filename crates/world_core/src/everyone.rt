@@ -1,8 +1,6 @@
 // All organisms ever in a world, of which only the latest are in memory.
 ghost use Rattle.std.specs.Prelude.{◌≡◌, ◌+◌, ◌++◌, ◌∷◌, [], ◌≤◌, ◌^◌, IfOk, OnOk, drop, length, replicate};
-ghost use Rattle.saved_worlds.specs.Resuming.{forgotten};
-ghost use Rattle.world_config.specs.Shown.{values_of};
-ghost use Rattle.world_rules.specs.WorldRun.{world_after};
+ghost use Rattle.world_core.specs.Prelude.{forgotten, values_of, world_after};
 
 use avida_port::Memory;
 use lineage_log::Ancestor;
@@ -37,7 +35,7 @@ pub(crate) struct Everyone {
 
 impl Model for Everyone {
     ghost use Rattle.std.specs.Prelude.{◌≡◌, ◌+◌, ◌++◌, ◌≤◌, ◌^◌, length};
-    ghost use Rattle.world_core.specs.Everyone.{EveryoneValue, past_links};
+    ghost use Rattle.world_core.specs.LateTrees.{EveryoneValue, past_links};
 
     ghost Value = { EveryoneValue };
 

@@ -1,10 +1,7 @@
 // The tree of a new world.
 ghost use Rattle.std.specs.Prelude.{◌≡◌, IfOk, OnOk, length};
-ghost use Rattle.world_config.specs.Shown.{values_of};
-ghost use Rattle.world_rules.specs.Update.{world_of};
-ghost use Rattle.world_rules.specs.WorldRun.{world_after};
+ghost use Rattle.world_core.specs.Prelude.{values_of, world_of, world_after, IsTreeOf};
 ghost use Rattle.world_core.specs.Scenes.{scene_in};
-ghost use Rattle.world_tree.specs.WorldTrees.{IsTreeOf};
 
 use crate::scene::Scene;
 use avida_port::Memory;

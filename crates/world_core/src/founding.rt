@@ -1,15 +1,9 @@
 // Founders: the configuration's own, and those that events inject.
 ghost use Rattle.std.specs.Prelude.{◌≡◌, ◌+◌, ◌++◌, ◌∷◌, ◌*◌, ◌^◌, ◌<◌, ◌≤◌, [], IfOk, OnOk, Some, length, slice_get};
-ghost use Rattle.genome.specs.Genome.{letters};
+ghost use Rattle.world_core.specs.Prelude.{letters, values_of, next_id, with_newcomer, founder_link, founder_of, founder_words, first_world, world_of, HasEachOnce, with_genome};
 ghost use Rattle.logic_tasks.specs.Inputs.{inputs_of};
 ghost use Rattle.random_streams.specs.RandomStream.{after};
-ghost use Rattle.world_config.specs.Shown.{values_of};
-ghost use Rattle.world_rules.specs.Scene.{next_id, with_newcomer};
-ghost use Rattle.world_rules.specs.World.{founder_link, founder_of, founder_words, first_world};
-ghost use Rattle.world_rules.specs.Update.{world_of};
-ghost use Rattle.genotype_bank.specs.BankHistory.{HasEachOnce, with_genome};
-ghost use Rattle.world_core.specs.Genotypes.{genomes_ever};
-ghost use Rattle.world_core.specs.Scenes.{scene_in};
+ghost use Rattle.world_core.specs.Scenes.{genomes_ever, scene_in};
 
 use crate::everyone::Everyone;
 use crate::scene::Scene;

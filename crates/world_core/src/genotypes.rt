@@ -1,7 +1,6 @@
 // The numbers of genotypes.
 ghost use Rattle.std.specs.Prelude.{◌≡◌, ◌+◌, ◌<◌, ◌^◌, [], All, Some, IfOk, OnErr, OnOk, fold, length, slice_get, nat_lt, if◌then◌else◌};
-ghost use Rattle.genome.specs.Genome.{letters};
-ghost use Rattle.genotype_bank.specs.BankHistory.{with_genome};
+ghost use Rattle.world_core.specs.Prelude.{letters, with_genome};
 ghost use Rattle.world_core.specs.Population.{AreDifferent};
 
 use avida_port::Memory;
@@ -29,8 +28,7 @@ impl Model for Genotypes {
     ghost Value = { List (List Letter) };
 
     ghost use Rattle.std.specs.Prelude.{◌≡◌, length};
-    ghost use Rattle.genotype_bank.specs.BankHistory.{genotypes_of};
-    ghost use Rattle.genotype_bank.specs.Seats.{all_shares};
+    ghost use Rattle.genotype_bank.specs.BankHistory.{genotypes_of, all_shares};
 
     ghost view = { λ g. genotypes_of g.seat.seen };
 

@@ -1,6 +1,6 @@
 // The ids of parents and of the dead, looked up by their cells.
 ghost use Rattle.std.specs.Prelude.{◌≡◌, IfOk, map, slice_index_or};
-ghost use Rattle.world_core.specs.Lived.{birth_by, departure_by};
+ghost use Rattle.world_core.specs.Endings.{birth_by, departure_by};
 
 use avida_port::Memory;
 use cell_shards::Delivered;

@@ -1,8 +1,6 @@
 // The tree of a world, which may be one update behind.
 ghost use Rattle.std.specs.Prelude.{IfOk};
-ghost use Rattle.world_config.specs.Shown.{values_of};
-ghost use Rattle.world_rules.specs.WorldRun.{world_after};
-ghost use Rattle.world_tree.specs.WorldTrees.{IsTreeOf};
+ghost use Rattle.world_core.specs.Prelude.{values_of, world_after, IsTreeOf};
 ghost use Rattle.world_core.specs.LateTrees.{IsLateTreeOf};
 
 use avida_port::Memory;

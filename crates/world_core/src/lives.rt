@@ -1,10 +1,8 @@
 // The lives of an update, all from one start.
 ghost use Rattle.std.specs.Prelude.{◌≡◌, ◌<◌, ◌≤◌, ◌^◌, ℕ, All, IfOk, length, map, sum, slice_index_or};
-ghost use Rattle.cell_shards.specs.CellLives.{round_numbers};
-ghost use Rattle.census.specs.Changes.{CanRenew};
+ghost use Rattle.world_core.specs.Prelude.{round_numbers, CanRenew, values_of};
 ghost use Rattle.merit_slices.specs.Slices.{slices_of};
-ghost use Rattle.world_config.specs.Shown.{values_of};
-ghost use Rattle.world_core.specs.Lived.{round_of};
+ghost use Rattle.world_core.specs.Endings.{round_of};
 ghost use Rattle.world_core.specs.Population.{CanCountChange, CountsChange, IsRenewed, merit_or_zero};
 
 use crate::settings::settings_at;

@@ -1,9 +1,6 @@
 // The picture of a world, for who watches a run.
 ghost use Rattle.std.specs.Prelude.{◌≡◌, ◌++◌, ◌∷◌, [], OnErr, OnOk, decimal, option_map};
-ghost use Rattle.census.specs.Dominance.{dominant_value};
-ghost use Rattle.log_lines.specs.Kept.{Keeps};
-ghost use Rattle.log_lines.specs.LineText.{words_text};
-ghost use Rattle.world_config.specs.Shown.{values_of};
+ghost use Rattle.world_core.specs.Prelude.{dominant_value, Keeps, words_text, values_of};
 ghost use Rattle.world_rules.specs.Picture.{dominant_words, picture_of, picture_text};
 
 use avida_port::Memory;

@@ -1,16 +1,9 @@
 // Who stands in each cell, and what is counted of them.
 ghost use Rattle.std.specs.Prelude.{◌≡◌, ◌+◌, [], ◌<◌, ◌≤◌, ◌^◌, None, Some, IfOk, OnErr, OnOk, length, map, option_map, replicate, slice_get, slice_index_or, slice_set};
-ghost use Rattle.census.specs.Dominance.{dominant_value};
-ghost use Rattle.genome.specs.Genome.{letters};
-ghost use Rattle.genotype_bank.specs.BankHistory.{with_genome};
-ghost use Rattle.world_config.specs.Shown.{values_of};
-ghost use Rattle.world_rules.specs.Lives.{lives_of};
-ghost use Rattle.world_rules.specs.Statistics.{dominant_of, organism_in, stats_in};
-ghost use Rattle.world_rules.specs.Update.{births_of};
-ghost use Rattle.world_laws.specs.Keeping.{LiveOn};
+ghost use Rattle.world_core.specs.Prelude.{dominant_value, letters, with_genome, values_of, lives_of, dominant_of, organism_in, stats_in, births_of, LiveOn};
 ghost use Rattle.world_core.specs.Bounds.{AreBounded, AreBoundedLives};
-ghost use Rattle.world_core.specs.Genotypes.{TakesIn};
-ghost use Rattle.world_core.specs.Lived.{delivered_in, delivery_in, departed_from, staying_in};
+ghost use Rattle.world_core.specs.Scenes.{TakesIn};
+ghost use Rattle.world_core.specs.Endings.{delivered_in, delivery_in, departed_from, staying_in};
 ghost use Rattle.world_core.specs.Population.{occupant_genome};
 
 use crate::cell_table::CellTable;

@@ -1,19 +1,9 @@
 // How a saved world is taken up again.
 ghost use Rattle.std.specs.Prelude.{◌≡◌, ◌+◌, ◌*◌, ◌<◌, ◌≤◌, ◌^◌, All, None, Some, IfOk, OnOk, ℕ, fold, length, map, replicate, slice_get, slice_set};
-ghost use Rattle.genome.specs.Genome.{letters};
-ghost use Rattle.genotype_bank.specs.BankHistory.{with_genome};
-ghost use Rattle.organism.specs.Image.{organism_of_image};
+ghost use Rattle.world_core.specs.Prelude.{letters, with_genome, organism_of_image, head_values, forgotten, world_of_state, state_of_lines, with_placed, head_at, IsHead, MayStandThere, placed_in, values_of, world_of};
 ghost use Rattle.organism.specs.Lived.{IsSoundOrganism};
-ghost use Rattle.saved_lines.specs.SavedValues.{head_values};
-ghost use Rattle.saved_worlds.specs.Resuming.{forgotten, world_of_state};
-ghost use Rattle.saved_worlds.specs.SavedGrammar.{state_of_lines, with_placed};
-ghost use Rattle.saved_worlds.specs.SavedState.{head_at};
-ghost use Rattle.saved_worlds.specs.ValidState.{IsHead, MayStandThere, placed_in};
 ghost use Rattle.mutations.specs.RecordForm.{IsWithin};
-ghost use Rattle.world_config.specs.Shown.{values_of};
-ghost use Rattle.world_rules.specs.Update.{world_of};
-ghost use Rattle.world_core.specs.Resumed.{KeepsPast};
-ghost use Rattle.world_core.specs.Scenes.{scene_in};
+ghost use Rattle.world_core.specs.Scenes.{KeepsPast, scene_in};
 
 use crate::everyone::Everyone;
 use crate::scene::Scene;

@@ -1,13 +1,8 @@
 // A world that goes on.
 ghost use Rattle.std.specs.Prelude.{◌≡◌, ◌+◌, ◌^◌, ◌<◌, ◌≤◌, [], IfOk, OnOk, length};
-ghost use mathlib.Core.List.{IsPrefix};
-ghost use Rattle.world_config.specs.Shown.{values_of};
+ghost use Rattle.world_core.specs.Prelude.{IsPrefix, values_of, update_text, stats_of, world_after, IsTreeOf};
 ghost use Rattle.world_core.specs.LateTrees.{IsLateTreeOf, IsLeftBehind};
-ghost use Rattle.world_core.specs.WorldValue.{WorldValue};
-ghost use Rattle.world_rules.specs.LogText.{update_text};
-ghost use Rattle.world_rules.specs.Statistics.{stats_of};
-ghost use Rattle.world_rules.specs.WorldRun.{world_after};
-ghost use Rattle.world_tree.specs.WorldTrees.{IsTreeOf};
+ghost use Rattle.world_core.specs.Scenes.{WorldValue};
 
 use crate::late_tree::LateTree;
 use crate::scene::Scene;
@@ -38,7 +33,7 @@ impl Model for RunningWorld {
     ghost use Rattle.std.specs.Prelude.{◌≤◌};
     ghost use Rattle.world_config.specs.Shown.{values_of};
     ghost use Rattle.world_core.specs.LateTrees.{IsLateTreeOf};
-    ghost use Rattle.world_core.specs.WorldValue.{WorldValue, IsWorldOf};
+    ghost use Rattle.world_core.specs.Scenes.{WorldValue, IsWorldOf};
 
     ghost Value = { WorldValue };
 

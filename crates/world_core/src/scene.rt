@@ -1,13 +1,6 @@
 // A world within an update.
 ghost use Rattle.std.specs.Prelude.{◌≡◌, ◌+◌, ◌++◌, ◌∷◌, [], ◌<◌, ◌≤◌, ◌^◌, Some, IfOk, None, OnOk, drop, length, option_map, replicate, slice_get, slice_index_or, slice_set};
-ghost use Rattle.genome.specs.Genome.{letters};
-ghost use Rattle.genotype_bank.specs.BankHistory.{with_genome};
-ghost use Rattle.mutations.specs.BirthRecord.{record_of};
-ghost use Rattle.saved_worlds.specs.Resuming.{forgotten};
-ghost use Rattle.world_config.specs.Shown.{values_of};
-ghost use Rattle.world_rules.specs.Scene.{next_id, standing_at, with_death};
-ghost use Rattle.world_rules.specs.Statistics.{organism_in, scene_stats};
-ghost use Rattle.world_rules.specs.WorldRun.{world_after};
+ghost use Rattle.world_core.specs.Prelude.{letters, with_genome, record_of, forgotten, values_of, next_id, standing_at, with_death, organism_in, scene_stats, world_after};
 ghost use Rattle.world_core.specs.Bounds.{CanStand};
 ghost use Rattle.world_core.specs.Scenes.{scene_in, with_occupant};
 
@@ -96,7 +89,7 @@ impl Scene {
     }
 
     /// Who stands in the cell dies, and is what the result has. After `Memory` drop the scene.
-    #[tactic(auto, unfolding(world_rules::specs::Scene::with_death), using(crate::proofs::BoundedCells::AreBounded_gone))]
+    #[tactic(auto, unfolding(world_rules::specs::World::with_death), using(crate::proofs::BoundedCells::AreBounded_gone))]
     pub(crate) fn kill(&mut self, cell: u32) -> Result<Option<BoxedOrganism>, Memory>
         requires { cell < length self.old.cells }
         ensures scene { OnOk result (scene_in self.new ≡ with_death (scene_in self.old) cell) }

@@ -1,11 +1,10 @@
 // What a configuration sets for an update.
 ghost use Rattle.std.specs.Prelude.{◌≡◌, ◌≤◌};
+ghost use Rattle.world_core.specs.Prelude.{values_of, with_rate, rates_at, settings_at, placing_round_at, torus_of};
 ghost use Rattle.birth_board.specs.Torus.{torus_numbers};
 ghost use Rattle.divide_rules.specs.Rules.{rule_numbers};
 ghost use Rattle.mutations.specs.Rates.{numbers_of};
 ghost use Rattle.organism.specs.SettingNumbers.{setting_numbers};
-ghost use Rattle.world_config.specs.Shown.{values_of};
-ghost use Rattle.world_rules.specs.Settings.{with_rate, rates_at, settings_at, placing_round_at, torus_of};
 
 use birth_board::{PlacingRound, Torus};
 use divide_rules::DivideRules;

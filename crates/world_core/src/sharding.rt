@@ -1,11 +1,7 @@
 // The cells of a world in shards, and what their lives leave as one again.
 ghost use Rattle.std.specs.Prelude.{◌≡◌, ◌+◌, ◌<◌, ◌≤◌, ◌^◌, ◌++◌, ◌∷◌, List, All, IfOk, Ok, OnOk, drop, length, map, sum, take};
-ghost use Rattle.std.specs.List.Sorted.{IsPermutation};
-ghost use mathlib.Core.List.{IsPrefix};
-ghost use Rattle.cell_shards.specs.CellLives.{IsYoung, births_from, deaths_from, left_in, part_from, round_numbers, shard_lives_of, standing_in};
-ghost use Rattle.cell_shards.specs.Finishing.{IsNumbered, birth_of};
-ghost use Rattle.genotype_bank.specs.Seats.{all_shares, own_calls_of};
-ghost use Rattle.world_core.specs.Genotypes.{TakesIn};
+ghost use Rattle.world_core.specs.Prelude.{IsPermutation, IsPrefix, IsYoung, births_from, deaths_from, left_in, part_from, round_numbers, shard_lives_of, standing_in, IsNumbered, birth_of, all_shares, own_calls_of};
+ghost use Rattle.world_core.specs.Scenes.{TakesIn};
 ghost use Rattle.world_core.specs.Population.{AreDifferent};
 ghost use Rattle.world_core.specs.Sharding.{IsJoined, PartCells, ShareLoad, ShareSeat, seat_from, seat_without, shards_for};
 

@@ -1,12 +1,8 @@
 // A saved world that goes on.
 ghost use Rattle.std.specs.Prelude.{◌≡◌, ◌*◌, ◌<◌, ◌≤◌, IfOk, None, length, map, slice_index_or};
-ghost use Rattle.lineage_log.specs.Slots.{taken};
-ghost use Rattle.saved_lines.specs.SavedValues.{head_values};
-ghost use Rattle.saved_worlds.specs.Resuming.{next_state, next_text};
-ghost use Rattle.saved_worlds.specs.SavedGrammar.{state_of_lines};
-ghost use Rattle.saved_worlds.specs.ValidState.{AreSaved, placed_in};
-ghost use Rattle.world_rules.specs.World.{ids_of};
-ghost use Rattle.world_core.specs.Resumed.{IsResidentIn};
+ghost use Rattle.world_core.specs.Prelude.{head_values, next_state, next_text, state_of_lines, AreSaved, placed_in, ids_of};
+ghost use Rattle.lineage_log.specs.Reader.{taken};
+ghost use Rattle.world_core.specs.Scenes.{IsResidentIn};
 
 use crate::resuming::{head_at, restored_scene, shared_config};
 use crate::scene::Scene;
@@ -42,7 +38,7 @@ impl Model for State {
 
     ghost use Rattle.std.specs.Prelude.{◌≤◌};
     ghost use Rattle.world_config.specs.Shown.{values_of};
-    ghost use Rattle.world_core.specs.Resumed.{IsState, state_in};
+    ghost use Rattle.world_core.specs.Scenes.{IsState, state_in};
 
     ghost view = { λ s. state_in (values_of s.config.value) s.scene };
 

@@ -1,18 +1,9 @@
 // One update.
 ghost use Rattle.std.specs.Prelude.{◌≡◌, ◌+◌, ◌++◌, ◌*◌, ◌<◌, ◌≤◌, ◌^◌, [], All, IfOk, OnOk, length, map};
-ghost use Rattle.lineage_log.specs.LogGrammar.{lines_text};
-ghost use Rattle.log_lines.specs.Line.{Count};
-ghost use Rattle.log_lines.specs.LineText.{line_text};
-ghost use Rattle.world_config.specs.Shown.{values_of};
-ghost use Rattle.world_laws.specs.Keeping.{LiveOn};
-ghost use Rattle.world_rules.specs.Lives.{lives_of};
-ghost use Rattle.world_rules.specs.LogText.{update_lines};
-ghost use Rattle.world_rules.specs.Update.{births_of, world_of};
+ghost use Rattle.world_core.specs.Prelude.{lines_text, Count, line_text, values_of, LiveOn, lives_of, update_lines, births_of, world_of};
 ghost use Rattle.world_core.specs.Bounds.{AreDeliveries};
-ghost use Rattle.world_core.specs.Endings.{Ends, IsNext, last_lines};
-ghost use Rattle.world_core.specs.Genotypes.{HasNumber, TakesIn};
-ghost use Rattle.world_core.specs.Lived.{delivered_in, delivery_in, departed_from, staying_in};
-ghost use Rattle.world_core.specs.Scenes.{scene_in};
+ghost use Rattle.world_core.specs.Endings.{Ends, IsNext, last_lines, delivered_in, delivery_in, departed_from, staying_in};
+ghost use Rattle.world_core.specs.Scenes.{HasNumber, TakesIn, scene_in};
 
 use crate::births::place_births;
 use crate::burials::bury;

@@ -1,18 +1,9 @@
 // A world.
 ghost use Rattle.std.specs.Prelude.{◌≡◌, ◌+◌, ◌*◌, ◌<◌, ◌≤◌, IfOk, Some, length, option_map, slice_get, None, slice_index_or};
-ghost use mathlib.Core.List.{IsPrefix};
-ghost use Rattle.genome.specs.Genome.{letters};
-ghost use Rattle.genotype_bank.specs.BankHistory.{HasEachOnce};
+ghost use Rattle.world_core.specs.Prelude.{IsPrefix, letters, HasEachOnce, line_text, state_of, values_of, head_text, update_text, end_text, stats_of, living_and_ancestors};
 ghost use Rattle.log_lines.specs.Line as line_spec;
-ghost use Rattle.log_lines.specs.LineText.{line_text};
-ghost use Rattle.saved_worlds.specs.SavedState.{state_of};
-ghost use Rattle.world_config.specs.Shown.{values_of};
 ghost use Rattle.world_rules.specs.Descent.{line_in};
-ghost use Rattle.world_rules.specs.LogText.{head_text, update_text, end_text};
-ghost use Rattle.world_rules.specs.Statistics.{stats_of};
-ghost use Rattle.world_tree.specs.WorldTrees.{living_and_ancestors};
-ghost use Rattle.world_core.specs.Genotypes.{genomes_ever};
-ghost use Rattle.world_core.specs.WorldValue.{WorldValue, world_in};
+ghost use Rattle.world_core.specs.Scenes.{genomes_ever, WorldValue, world_in};
 ghost use Rattle.world_core.specs.Population.{occupant_genome};
 
 use crate::first_tree::first_tree;
@@ -51,7 +42,7 @@ impl Model for World {
     ghost use Rattle.world_config.specs.Shown.{values_of};
     ghost use Rattle.world_rules.specs.WorldRun.{world_after};
     ghost use Rattle.world_tree.specs.WorldTrees.{IsTreeOf};
-    ghost use Rattle.world_core.specs.WorldValue.{WorldValue, IsWorldOf};
+    ghost use Rattle.world_core.specs.Scenes.{WorldValue, IsWorldOf};
 
     ghost Value = { WorldValue };
 

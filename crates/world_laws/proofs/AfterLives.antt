@@ -1,18 +1,7 @@
 -- Who stands in the cells after the lives of an update, and how many newborns there are.
 use Rattle.std.proofs.Common.{◌≡◌, ℕ, zero, suc, ◌+◌, ◌<◌, ◌≤◌, List, [], ◌∷◌, map, length, take, Option, Some, None, refl, sym, ap, ◌∙◌, arith, length-append, inl, inr, sum}
 use Rattle.std.specs.Prelude.{slice_get, slice_index_or, flat_map}
-use Rattle.std.specs.List.{AllByRecursion, enumerate_from, zip}
-use Rattle.std.proofs.lemmas.List.{length-map, take_all, get_or_past}
-use Rattle.std.proofs.lemmas.List.Sums.{sum_by_more, sum_by-take-le}
-use Rattle.std.proofs.lemmas.Bool.{cases_lt}
-use Rattle.instruction_set.specs.declared.letter.Letter.{Letter}
-use Rattle.birth_board.specs.declared.placing.Placing.{Placing}
-use Rattle.organism.specs.Newborns.{NewbornValue}
-use Rattle.organism.specs.Lived.{IsSoundOrganism}
-use Rattle.world_config.specs.Values.{ConfigValues}
-use Rattle.world_rules.specs.World.{Occupant, id_of, ids_of}
-use Rattle.world_rules.specs.Lives.{CellLife}
-use Rattle.world_rules.specs.Update.{Delivery, births_by, births_in, births_of, delivery_of}
+use Rattle.world_laws.proofs.Prelude.{AllByRecursion, enumerate_from, zip, length-map, take_all, get_or_past, sum_by_more, sum_by-take-le, cases_lt, Letter, Placing, NewbornValue, IsSoundOrganism, ConfigValues, Occupant, id_of, ids_of, CellLife, Delivery, births_by, births_in, births_of, delivery_of}
 use Rattle.world_laws.proofs.Mirror.{People}
 use Rattle.world_laws.proofs.Scenes.{Stands, Known, Each}
 use Rattle.world_laws.proofs.UpdateLines.{IsTurn}

@@ -1,17 +1,9 @@
 -- The values of a configuration are within the bounds of their keys.
 use Rattle.std.proofs.Common.{◌≡◌, ◌-◌, ◌*◌, ◌≤◌, true, List, [], ◌∷◌, arith}
 use Rattle.std.specs.Prelude.{nat_le}
-use Rattle.std.specs.List.{AllByRecursion}
-use Rattle.std.proofs.Math.Nat.{mul-le-mul}
-use Rattle.std.proofs.lemmas.Bool.{and_parts, leb-true}
-use Rattle.std.proofs.lemmas.List.Elements.{recursion_from_All}
+use Rattle.world_laws.proofs.Prelude.{AllByRecursion, mul-le-mul, and_parts, leb-true, recursion_from_All, EventValue, WhatValue, inject, clear, rate, what_fits, event_fits, event_values, values_of, ConfigValues, IsConfig, size_of, FitsWhat}
 use Rattle.world_config.specs.declared.config.Config.{Config}
-use Rattle.world_config.specs.Bounds.{frame_of}
-use Rattle.world_config.specs.Events.{EventValue, WhatValue, inject, clear, rate, what_fits, event_fits, event_values}
-use Rattle.world_config.specs.KeyTable.{Frame}
-use Rattle.world_config.specs.Shown.{values_of}
-use Rattle.world_config.specs.Values.{ConfigValues}
-use Rattle.world_laws.specs.Bounds.{IsConfig, size_of, FitsWhat}
+use Rattle.world_config.specs.KeyTable.{frame_of, Frame}
 
 -- the frame of a configuration's events
 abbrev frame : ConfigValues → Frame

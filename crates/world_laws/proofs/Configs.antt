@@ -1,16 +1,7 @@
 -- What the bounds of a configuration say of its values.
 use Rattle.std.proofs.Common.{ℕ, ◌+◌, ◌≤◌, Bool, List, [], ◌∷◌, length, arith}
 use Rattle.std.specs.Prelude.{filter, ◌==◌}
-use Rattle.std.specs.List.{AllByRecursion, enumerate_from}
-use Rattle.std.proofs.lemmas.List.FromFn.{length-enumerate_from}
-use Rattle.std.proofs.lemmas.List.Sums.{length-filter, count_by-le-length}
-use Rattle.std.proofs.Math.Nat.{mul-le-mul}
-use Rattle.instruction_set.specs.declared.letter.Letter.{Letter}
-use Rattle.genome.specs.Genome.{IsGenome}
-use Rattle.world_config.specs.Events.{EventValue}
-use Rattle.world_config.specs.Values.{ConfigValues}
-use Rattle.world_rules.specs.Update.{events_at}
-use Rattle.world_laws.specs.Bounds.{FitsWhat, IsConfig, size_of}
+use Rattle.world_laws.proofs.Prelude.{AllByRecursion, enumerate_from, length-enumerate_from, length-filter, count_by-le-length, mul-le-mul, Letter, IsGenome, EventValue, ConfigValues, events_at, FitsWhat, IsConfig, size_of}
 use Rattle.world_laws.proofs.Placements.{all_filtered}
 
 -- the same of an event with its place in the list

@@ -1,24 +1,12 @@
 -- The genomes of all who ever were in a world come from their parents'.
 use Rattle.std.proofs.Common.{◌≡◌, ℕ, zero, suc, List, [], ◌∷◌, ◌++◌, Option, Some, None, refl, sym, subst, ◌∙◌, inl, inr}
 use Rattle.std.specs.Prelude.{slice_get, fold}
-use Rattle.std.specs.List.{AllByRecursion}
-use Rattle.std.proofs.lemmas.Option.{slice_get-map}
-use Rattle.birth_board.specs.declared.placing.Placing.{Placing}
+use Rattle.world_laws.proofs.Prelude.{AllByRecursion, slice_get-map, Placing, Link, EventValue, WhatValue, inject, clear, rate, ConfigValues, World, founder_link, first_world, Scene, next_id, with_death, with_deaths, cells_from, with_newcomer, Delivery, birth_link, with_newborn, after_what, after_event, after_burials, deaths_of, births_of, turns_of, after_births, events_at, after_events, last_scene, scene_of_lives, lives_after, next_scene, next_world, world_after, ComesFrom, AreDescended, LifeLaws, IsConfig, size_of}
 use Rattle.log_lines.proofs.FieldLaws.{some_map}
-use Rattle.lineage_log.specs.Links.{Link}
-use Rattle.world_config.specs.Events.{EventValue, WhatValue, inject, clear, rate}
-use Rattle.world_config.specs.Values.{ConfigValues}
-use Rattle.world_rules.specs.World.{World, founder_link, first_world}
-use Rattle.world_rules.specs.Scene.{Scene, next_id, with_death, with_deaths, cells_from, with_newcomer}
-use Rattle.world_rules.specs.Update.{Delivery, birth_link, with_newborn, after_what, after_event, after_burials, deaths_of, births_of, turns_of, after_births, events_at, after_events, last_scene, scene_of_lives, lives_after, next_scene, next_world}
-use Rattle.world_rules.specs.WorldRun.{world_after}
-use Rattle.world_laws.specs.Heredity.{ComesFrom, AreDescended}
-use Rattle.world_laws.specs.LowerLaws.{LifeLaws}
 use Rattle.world_laws.proofs.ListLemmas.{fold-keeps, get_last, get_more}
 use Rattle.world_laws.proofs.Mirror.{People}
 use Rattle.world_laws.proofs.Scenes.{IsScene}
 use Rattle.world_laws.proofs.UpdateLines.{IsTurn, scene_birth, scene_deaths}
-use Rattle.world_laws.specs.Bounds.{IsConfig, size_of}
 use Rattle.world_laws.proofs.Runs.{IsRun, ended, scene_ended, turns_are}
 use Rattle.world_laws.proofs.WholeLogs.{kept_after, run_after}
 

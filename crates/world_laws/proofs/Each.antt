@@ -1,19 +1,7 @@
 -- What holds of each who stands in the cells, as organisms go and come.
 use Rattle.std.proofs.Common.{◌≡◌, ◌≢◌, inl, inr, sym, subst, ℕ, zero, suc, ◌+◌, ◌<◌, ◌≤◌, Bool, false, List, [], ◌∷◌, length, map, get_or, Option, Some, None, arith}
 use Rattle.std.specs.Prelude.{filter, flat_map}
-use Rattle.std.specs.List.{AllByRecursion, enumerate_from, range_with_len}
-use Rattle.std.proofs.lemmas.Bool.{cases_Bool, cases_eq}
-use Rattle.std.proofs.lemmas.List.{length-map}
-use Rattle.std.proofs.lemmas.List.Elements.{recursion_from_All}
-use Rattle.std.proofs.lemmas.List.FromFn.{get_or-map-range_with_len, length-map-range_with_len}
-use Rattle.std.proofs.lemmas.Option.{slice_get-get_or, slice_get-map, slice_get_within}
-use Rattle.organism.specs.Newborns.{NewbornValue}
-use Rattle.organism.specs.OrganismState.{OrganismState}
-use Rattle.lineage_log.specs.Links.{Link}
-use Rattle.world_rules.specs.Lives.{CellLife, no_life}
-use Rattle.world_rules.specs.Scene.{Scene, with_death, with_deaths, with_newcomer}
-use Rattle.world_rules.specs.Update.{Delivery, births_by, births_in, delivery_of}
-use Rattle.world_rules.specs.World.{Occupant}
+use Rattle.world_laws.proofs.Prelude.{AllByRecursion, enumerate_from, range_with_len, cases_Bool, cases_eq, length-map, recursion_from_All, get_or-map-range_with_len, length-map-range_with_len, slice_get-get_or, slice_get-map, slice_get_within, NewbornValue, OrganismState, Link, CellLife, no_life, Scene, with_death, with_deaths, with_newcomer, Occupant, Delivery, births_by, births_in, delivery_of}
 use Rattle.world_laws.proofs.AfterLives.{left_by}
 use Rattle.world_laws.proofs.ListLemmas.{get_emptied}
 use Rattle.world_laws.proofs.Placements.{all_append}

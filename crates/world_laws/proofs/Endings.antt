@@ -1,24 +1,9 @@
 -- How an update ends, from sound organisms alone.
 use Rattle.std.proofs.Common.{◌≡◌, ◌∙◌, sym, ◌+◌, ◌*◌, ◌≤◌, length, map, sum, arith}
-use Rattle.std.proofs.Math.Nat.{mul-le-mul}
-use Rattle.std.proofs.lemmas.List.{length-map}
-use Rattle.std.proofs.lemmas.List.FromFn.{length-map-range_with_len}
-use Rattle.random_streams.specs.declared.purpose.Purpose.TheVariants.{Run}
-use Rattle.random_streams.specs.RandomStream.{draw}
-use Rattle.organism.specs.Lived.{IsSoundOrganism}
-use Rattle.world_config.specs.Values.{ConfigValues}
-use Rattle.world_rules.specs.World.{World}
-use Rattle.world_rules.specs.Lives.{life_at, lives_of, merit_in, slice_at, slices_at}
-use Rattle.world_rules.specs.Scene.{Scene}
-use Rattle.world_rules.specs.Settings.{settings_at}
-use Rattle.world_rules.specs.Update.{after_lives, after_burials, deaths_of, births_of, placings_of, after_births, events_at, after_events, last_scene, scene_of_lives, lives_after, next_scene, next_world}
-use Rattle.world_laws.specs.Keeping.{LiveOn}
-use Rattle.world_laws.specs.LowerLaws.{LifeLaws}
-use Rattle.world_laws.specs.Ranges.{HaveOwnIds}
+use Rattle.world_laws.proofs.Prelude.{mul-le-mul, length-map, length-map-range_with_len, Run, draw, IsSoundOrganism, ConfigValues, World, Scene, life_at, lives_of, merit_in, slice_at, slices_at, settings_at, after_lives, after_burials, deaths_of, births_of, placings_of, after_births, events_at, after_events, last_scene, scene_of_lives, lives_after, next_scene, next_world, LiveOn, HaveOwnIds, LifeLaws, IsConfig, size_of}
 use Rattle.world_laws.proofs.Scenes.{Each}
 use Rattle.world_laws.proofs.LivesLemmas.{AreLives, lives_are}
 use Rattle.world_laws.proofs.AfterLives.{births_born, births_few, entries_few, sound_kept, was_there}
-use Rattle.world_laws.specs.Bounds.{IsConfig, size_of}
 use Rattle.world_laws.proofs.Configs.{events_fit, events_few, few_cells}
 use Rattle.world_laws.proofs.Sounds.{Goes, goes_on, goes_deaths, goes_births, goes_events}
 

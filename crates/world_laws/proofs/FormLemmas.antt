@@ -1,26 +1,9 @@
 -- The parts of a line have the forms that a log asks for.
 use Rattle.std.proofs.Common.{◌+◌, ◌≡◌, ℕ, suc, ◌*◌, ◌^◌, ◌<◌, ◌≤◌, true, List, [], ◌∷◌, map, length, Option, Some, None, refl, arith, sum_by}
 use Rattle.std.specs.Prelude.{not, is_some, IfSome}
-use Rattle.std.specs.List.{AllByRecursion}
-use Rattle.std.proofs.lemmas.Bool.Decides.{nat_tests}
-use Rattle.std.proofs.lemmas.List.{length-map}
-use Rattle.std.proofs.lemmas.List.Sums.{sum_by-cons, count_by-le-length}
-use Rattle.instruction_set.specs.declared.letter.Letter.{Letter}
+use Rattle.world_laws.proofs.Prelude.{AllByRecursion, nat_tests, length-map, sum_by-cons, count_by-le-length, Letter, different_of, IsGenome, Task, all_tasks, has_task, Count, HasForm, IsLarge, taken, OrganismState, IsSoundOrganism, Occupant, id_of, ids_of, Scene, organisms_in, genomes_of_cells, credited_with, stats_in, scene_stats}
 use Rattle.instruction_set.specs.Letter.{same_letters}
-use Rattle.genome.specs.Genomes.{different_of}
-use Rattle.genome.specs.Genome.{IsGenome}
-use Rattle.logic_tasks.specs.declared.task.Task.{Task}
-use Rattle.logic_tasks.specs.LogicTasks.{all_tasks}
-use Rattle.logic_tasks.specs.TaskSet.{has_task}
 use Rattle.mutations.specs.Change.{is_genome_length}
-use Rattle.log_lines.specs.Line.{Count}
-use Rattle.log_lines.specs.LineText.{HasForm, IsLarge}
-use Rattle.lineage_log.specs.Slots.{taken}
-use Rattle.organism.specs.OrganismState.{OrganismState}
-use Rattle.organism.specs.Lived.{IsSoundOrganism}
-use Rattle.world_rules.specs.World.{Occupant, id_of, ids_of}
-use Rattle.world_rules.specs.Scene.{Scene}
-use Rattle.world_rules.specs.Statistics.{organisms_in, genomes_of_cells, credited_with, stats_in, scene_stats}
 use Rattle.world_laws.proofs.Scenes.{Each}
 use Rattle.world_laws.proofs.Configs.{filter_few}
 

@@ -1,24 +1,13 @@
 -- Each line of an update has the form that a log asks for.
 use Rattle.std.proofs.Common.{◌≡◌, ℕ, suc, ◌+◌, ◌<◌, ◌≤◌, List, [], ◌∷◌, length, Some, arith, length-append}
 use Rattle.std.specs.Prelude.{IfSome}
-use Rattle.std.specs.List.{AllByRecursion, filter_map, flat_map, scan, zip}
-use Rattle.std.proofs.lemmas.Option.{slice_get_within}
-use Rattle.birth_board.specs.declared.placing.Placing.{Placing}
-use Rattle.log_lines.specs.Line.{Line, Death, Cleared}
-use Rattle.log_lines.specs.LineText.{HasForm, IsLarge}
-use Rattle.world_config.specs.Events.{EventValue, WhatValue, inject, clear, rate}
-use Rattle.world_config.specs.Values.{ConfigValues}
-use Rattle.world_rules.specs.World.{founder_link}
-use Rattle.world_rules.specs.Scene.{Scene, next_id, standing_at, with_death, with_deaths, cells_from, with_newcomer}
-use Rattle.world_rules.specs.Update.{Delivery, birth_link, with_newborn, after_what, after_event}
-use Rattle.world_rules.specs.LogText.{death_lines, birth_line, cleared_line, what_lines, lines_of_event}
+use Rattle.world_laws.proofs.Prelude.{AllByRecursion, filter_map, flat_map, scan, zip, slice_get_within, Placing, Line, Death, Cleared, HasForm, IsLarge, EventValue, WhatValue, inject, clear, rate, ConfigValues, founder_link, Scene, next_id, standing_at, with_death, with_deaths, cells_from, with_newcomer, Delivery, birth_link, with_newborn, after_what, after_event, death_lines, birth_line, cleared_line, what_lines, lines_of_event, IsConfig, size_of, FitsWhat}
 use Rattle.world_laws.proofs.Mirror.{People}
 use Rattle.world_laws.proofs.Scenes.{IsScene, who_stands, id_small, scene_death}
 use Rattle.world_laws.proofs.LeavingLines.{leaving_lines}
 use Rattle.world_laws.proofs.UpdateLines.{scene_birth, scene_what}
 use Rattle.world_laws.proofs.Placements.{all_append}
 use Rattle.world_laws.proofs.AfterLives.{IsDelivery}
-use Rattle.world_laws.specs.Bounds.{IsConfig, size_of, FitsWhat}
 use Rattle.world_laws.proofs.Configs.{FitsPlaced, genome_fits, few_cells}
 use Rattle.world_laws.proofs.FormLemmas.{letters_form, over_form}
 

@@ -1,21 +1,9 @@
 -- A life keeps the genome, and changes the merit and the credited set by births alone.
 use Rattle.std.proofs.Common.{◌≡◌, ◌∙◌, refl, ap, length, Bool, true, ℕ, zero, suc, ◌+◌, List, [], ◌∷◌, ◌++◌, Option, Some, None}
-use Rattle.std.proofs.lemmas.List.{length-set}
-use Rattle.instruction_set.specs.declared.letter.Letter.{Letter}
-use Rattle.divide_rules.specs.Rules.{RuleNumbers}
-use Rattle.logic_tasks.specs.LogicTasks.{task_place}
-use Rattle.logic_tasks.specs.declared.task.Task.{Task}
+use Rattle.world_laws.proofs.Prelude.{length-set, Letter, RuleNumbers, task_place, Task, letter_under_ip, Outcome, after_did, after_output, life_step, newly_done, older, renewed, with_done, next_input, OrganismState, SettingNumbers, LifeState, after_copy_of, after_outcome, after_step, copy_of, death_in, ended, life, life_state_after, HasKept, step}
 use Rattle.virtual_cpu.specs.declared.step_answer.StepAnswer.{StepAnswer}
 use Rattle.virtual_cpu.specs.declared.step_answer.StepAnswer.TheVariants.{Output}
-use Rattle.virtual_cpu.specs.Machine.{letter_under_ip}
-use Rattle.organism.specs.declared.outcome.Outcome.{Outcome}
 use Rattle.organism.specs.declared.outcome.Outcome.TheVariants as outcome
-use Rattle.organism.specs.Life.{after_did, after_output, life_step, newly_done, older, renewed, with_done, next_input}
-use Rattle.organism.specs.OrganismState.{OrganismState}
-use Rattle.organism.specs.SettingNumbers.{SettingNumbers}
-use Rattle.organism.specs.UpdateLife.{LifeState, after_copy_of, after_outcome, after_step, copy_of, death_in, ended, life, life_state_after}
-use Rattle.world_laws.specs.Keeping.{HasKept}
-use Rattle.virtual_cpu.specs.Step.{step}
 
 -- what the answer of a machine leaves of an organism: with its limit, its age and how many tasks its
 -- gestation has

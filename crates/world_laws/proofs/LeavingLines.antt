@@ -1,9 +1,7 @@
 -- What holds of the lines of those who leave their cells one after another, by death or by an event.
 use Rattle.std.proofs.Common.{◌≡◌, ℕ, List, [], ◌∷◌, Option, Some, None, refl}
 use Rattle.std.specs.Prelude.{option_map}
-use Rattle.std.specs.List.{AllByRecursion, filter_map, cons_option, scan}
-use Rattle.log_lines.specs.Line.{Line}
-use Rattle.world_rules.specs.Scene.{Scene, standing_at, with_death}
+use Rattle.world_laws.proofs.Prelude.{AllByRecursion, filter_map, cons_option, scan, Line, Scene, standing_at, with_death}
 
 module _ (P : Line → Type 0) (line_of : Scene → ℕ → ℕ → Line) (Keeps : Scene → Type 0)
     (next : (scene : Scene) (cell : ℕ) → Keeps scene → Keeps (with_death scene cell))

@@ -1,3 +1,4 @@
+pub mod Prelude
 pub mod ListLemmas
 mod Mirror
 mod Scenes

@@ -1,20 +1,9 @@
 -- A life keeps the limit and the sets of an organism, and ends before the age of death or with it.
 use Rattle.std.proofs.Common.{◌≡◌, ◌⊎◌, inl, inr, ◌∙◌, refl, ap, ℕ, ℤ, zero, suc, ◌+◌, ◌*◌, ◌<◌, ◌≤◌, Bool, true, false, [], ◌∷◌, length, Option, Some, None, arith, add-one}
 use Rattle.std.specs.Prelude.{find}
-use Rattle.std.specs.List.{AllByRecursion, range_with_len}
-use Rattle.std.proofs.lemmas.Bool.{cases_Bool, cases_eq, eq-eqb}
-use Rattle.std.proofs.lemmas.List.{length-replicate}
-use Rattle.instruction_set.specs.declared.letter.Letter.{Letter}
-use Rattle.virtual_cpu.specs.Machine.{Machine, letter_under_ip}
-use Rattle.virtual_cpu.specs.Step.{KeepsLimits, step}
-use Rattle.organism.specs.declared.outcome.Outcome.{Outcome}
+use Rattle.world_laws.proofs.Prelude.{AllByRecursion, range_with_len, cases_Bool, cases_eq, eq-eqb, length-replicate, Letter, Machine, letter_under_ip, KeepsLimits, step, Outcome, life_step, next_input, older, renewed, NewbornValue, OrganismState, SettingNumbers, LifeState, after_copy_of, after_outcome, after_step, copy_of, death_in, dies_at, ended, is_death, is_old, life, life_state_after, newborn_of}
 use Rattle.organism.specs.declared.outcome.Outcome.TheVariants as outcome
 use Rattle.organism.specs.declared.ran.Ran.{Ran}
-use Rattle.organism.specs.Life.{life_step, next_input, older, renewed}
-use Rattle.organism.specs.Newborns.{NewbornValue}
-use Rattle.organism.specs.OrganismState.{OrganismState}
-use Rattle.organism.specs.SettingNumbers.{SettingNumbers}
-use Rattle.organism.specs.UpdateLife.{LifeState, after_copy_of, after_outcome, after_step, copy_of, death_in, dies_at, ended, is_death, is_old, life, life_state_after, newborn_of}
 use Rattle.world_laws.proofs.Keepings.{Lasting, step-leaves, steps-kept}
 use Rattle.world_laws.proofs.Placements.{all_append}
 

@@ -1,17 +1,9 @@
 -- Each of a line of descent but the first is made of the one before it.
 use Rattle.std.proofs.Common.{◌≡◌, ℕ, zero, suc, ◌<◌, List, [], ◌∷◌, ◌++◌, map, Option, Some, None, refl, sym, ap, ◌∙◌, arith}
 use Rattle.std.specs.Prelude.{slice_get, option_map, IfSome}
-use Rattle.std.proofs.lemmas.Option.{get_or_from_slice_get, slice_get-map}
-use Rattle.lineage_log.specs.Links.{Link}
-use Rattle.world_config.specs.Values.{ConfigValues}
-use Rattle.world_rules.specs.World.{Occupant, World, id_at}
-use Rattle.world_rules.specs.WorldRun.{world_after}
-use Rattle.world_rules.specs.Descent.{descent_line_of, line_of_parent, descent_lines_of, line_in, IsBelow, AreNumbered}
-use Rattle.world_laws.specs.Heredity.{IsChildOf, ComesFrom, AreDescended, IsDescent, IsLastOfLine}
-use Rattle.world_laws.specs.LowerLaws.{LifeLaws, LineLaws}
+use Rattle.world_laws.proofs.Prelude.{get_or_from_slice_get, slice_get-map, Link, ConfigValues, Occupant, World, id_at, world_after, descent_line_of, line_of_parent, descent_lines_of, line_in, IsBelow, AreNumbered, IsChildOf, ComesFrom, AreDescended, IsDescent, IsLastOfLine, LifeLaws, LineLaws, IsConfig}
 use Rattle.world_laws.proofs.Mirror.{written}
 use Rattle.world_laws.proofs.Scenes.{Known, Stands, who_stands}
-use Rattle.world_laws.specs.Bounds.{IsConfig}
 use Rattle.world_laws.proofs.Updates.{written_there}
 use Rattle.world_laws.proofs.WholeLogs.{run_after}
 use Rattle.world_laws.proofs.Descents.{descended_after}

@@ -1,10 +1,7 @@
 -- Lists that were written at a place, or grew at their end, and folds over lists.
 use Rattle.std.proofs.Common.{◌≡◌, ◌≢◌, ℕ, zero, suc, ◌+◌, ◌<◌, true, List, [], ◌∷◌, ◌++◌, map, length, drop, Option, Some, None, refl, sym, ap, arith, eq-eqb, ◌⊎◌, inl, inr, ◌∙◌}
-use Rattle.std.proofs.lemmas.Bool.{cases_eq}
-use Rattle.std.proofs.lemmas.List.{length-set, set-get_or}
-use Rattle.std.proofs.lemmas.Option.{slice_get_within}
 use Rattle.std.specs.Prelude.{slice_get, slice_set, slice_index_or, ◌==◌, fold, replicate}
-use Rattle.lineage_log.proofs.StandingLemmas.{get_other}
+use Rattle.world_laws.proofs.Prelude.{cases_eq, length-set, set-get_or, slice_get_within, get_other}
 
 -- what was written at a place stands there
 pub get_written : {X : Type 0} (xs : List X) (i : ℕ) (x : X) → i < length xs

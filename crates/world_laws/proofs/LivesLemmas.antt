@@ -1,21 +1,7 @@
 -- What the lives of an update leave in the cells, and their newborns, by what one life does.
 use Rattle.std.proofs.Common.{add-zero, zero-add, ◌≡◌, ℕ, suc, ◌+◌, ◌<◌, ◌≤◌, List, [], ◌∷◌, map, length, Option, Some, None, refl, arith}
 use Rattle.std.specs.Prelude.{slice_index_or}
-use Rattle.std.specs.List.{AllByRecursion, range_with_len}
-use Rattle.std.proofs.lemmas.List.Elements.{recursion_from_All}
-use Rattle.instruction_set.specs.declared.letter.Letter.{Letter}
-use Rattle.divide_rules.specs.Rules.{AreRules}
-use Rattle.random_streams.specs.declared.purpose.Purpose.TheVariants.{Run}
-use Rattle.random_streams.specs.RandomStream.{draw}
-use Rattle.organism.specs.Newborns.{NewbornValue}
-use Rattle.organism.specs.UpdateLife.{life}
-use Rattle.organism.specs.Lived.{IsSoundOrganism, IsBornOf, beginning}
-use Rattle.organism.specs.OrganismLife.{life_by}
-use Rattle.world_config.specs.Values.{ConfigValues}
-use Rattle.world_rules.specs.World.{Occupant}
-use Rattle.world_rules.specs.Settings.{settings_at}
-use Rattle.world_rules.specs.Lives.{CellLife, life_of, life_at, lives_of, slice_at}
-use Rattle.world_laws.specs.LowerLaws.{LifeLaws}
+use Rattle.world_laws.proofs.Prelude.{AllByRecursion, range_with_len, recursion_from_All, Letter, AreRules, Run, draw, NewbornValue, life, IsSoundOrganism, IsBornOf, beginning, life_by, ConfigValues, Occupant, settings_at, CellLife, life_of, life_at, lives_of, slice_at, LifeLaws}
 use Rattle.world_laws.proofs.ListLemmas.{got_some}
 use Rattle.world_laws.proofs.Scenes.{Each}
 

@@ -1,15 +1,7 @@
 -- All merits of a world of sound organisms together.
 use Rattle.std.proofs.Common.{◌+◌, ◌≡◌, ℕ, suc, ◌*◌, ◌≤◌, ◌^◌, List, [], ◌∷◌, map, length, sum, Option, Some, None, refl, ap, arith}
-use Rattle.std.proofs.lemmas.List.{length-map}
-use Rattle.std.proofs.lemmas.List.Sums.{sum_by-cons}
-use Rattle.organism.specs.Lived.{IsSoundOrganism}
-use Rattle.world_config.specs.Values.{ConfigValues}
-use Rattle.world_rules.specs.World.{Occupant}
-use Rattle.world_rules.specs.Lives.{merit_in}
-use Rattle.world_rules.specs.WorldRun.{world_after}
-use Rattle.world_laws.specs.LowerLaws.{LifeLaws}
+use Rattle.world_laws.proofs.Prelude.{length-map, sum_by-cons, IsSoundOrganism, ConfigValues, Occupant, merit_in, world_after, LifeLaws, IsConfig}
 use Rattle.world_laws.proofs.Scenes.{Each}
-use Rattle.world_laws.specs.Bounds.{IsConfig}
 use Rattle.world_laws.proofs.Configs.{few_cells}
 use Rattle.world_laws.proofs.WholeLogs.{run_after}
 

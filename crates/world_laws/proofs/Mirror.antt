@@ -1,15 +1,6 @@
 -- What the order's reader knows of a world within an update, and what a replay has seen of it.
 use Rattle.std.proofs.Common.{◌≡◌, ℕ, List, [], ◌∷◌, ◌++◌, map, length, drop, Option, Some, Ok, Err, refl, ap, ◌∙◌}
-use Rattle.instruction_set.specs.declared.letter.Letter.{Letter}
-use Rattle.log_lines.specs.Line.{Line}
-use Rattle.lineage_log.specs.declared.stage.Stage.{Stage}
-use Rattle.lineage_log.specs.declared.stage.Stage.TheVariants.{Quiet}
-use Rattle.lineage_log.specs.Order.{LogPlace, Within, told, told_all, and_on}
-use Rattle.lineage_log.specs.Reader.{Reader}
-use Rattle.lineage_log.specs.Replay.{Seen, seen_on, seen_all}
-use Rattle.lineage_log.specs.Links.{Link}
-use Rattle.world_rules.specs.World.{Occupant, ids_of}
-use Rattle.world_rules.specs.Scene.{Scene}
+use Rattle.world_laws.proofs.Prelude.{Letter, Line, Stage, Quiet, LogPlace, Within, told, told_all, and_on, Reader, Seen, seen_on, seen_all, Link, Occupant, ids_of, Scene}
 
 -- the genomes of those who lived when the update began, by id
 abbrev pub People : Type 0

@@ -1,11 +1,6 @@
 -- The parents of the newborns of an update.
 use Rattle.std.proofs.Common.{ℕ, ◌+◌, List, length, arith, ◌∷◌, Option}
-use Rattle.std.specs.List.{AllByRecursion, enumerate_from, flat_map, zip}
-use Rattle.birth_board.specs.declared.placing.Placing.{Placing}
-use Rattle.world_config.specs.Values.{ConfigValues}
-use Rattle.world_rules.specs.World.{Occupant}
-use Rattle.world_rules.specs.Lives.{CellLife}
-use Rattle.world_rules.specs.Update.{Delivery, births_in}
+use Rattle.world_laws.proofs.Prelude.{AllByRecursion, enumerate_from, flat_map, zip, Placing, ConfigValues, Occupant, CellLife, Delivery, births_in}
 use Rattle.world_laws.proofs.AfterLives.{births_hold}
 use Rattle.world_laws.proofs.Scenes.{Stands}
 use Rattle.world_laws.proofs.LivesLemmas.{AreLives}

@@ -1,11 +1,7 @@
 -- Newborns are placed in cells of the torus, one placing each.
 use Rattle.std.proofs.Common.{ℕ, zero, suc, ◌+◌, ◌*◌, ◌/◌, ◌<◌, ◌≤◌, Bool, true, false, cond, List, [], ◌∷◌, ◌++◌, Option, arith}
 use Rattle.std.specs.Prelude.{◌==◌, count_by, slice_index_or, filter, fold, ◌%◌}
-use Rattle.std.specs.List.{AllByRecursion}
-use Rattle.std.proofs.Math.Nat.{mul-le-mul_left, div-lt_iff_lt-mul}
-use Rattle.logic_tasks.specs.Inputs.{HasTopBytes}
-use Rattle.logic_tasks.proofs.InputsLaws.{inputs_of-top}
-use Rattle.birth_board.specs.declared.placing.Placing.{Placing}
+use Rattle.world_laws.proofs.Prelude.{AllByRecursion, mul-le-mul_left, div-lt_iff_lt-mul, HasTopBytes, inputs_of-top, Placing}
 use Rattle.birth_board.specs.declared.placing_round.PlacingRound.{PlacingRound}
 use Rattle.birth_board.specs.Torus.{TorusNumbers, cells_of, west_of, east_of, north_of, south_of, around, neighbours_of}
 use Rattle.birth_board.specs.Placement.{Board, is_free, choices_of, chosen_cell, placing_words, placing_of, next_placing, next_board, placements_of}

@@ -1,34 +1,7 @@
 -- The organisms of a run stay in range, and its worlds gave few ids.
 use Rattle.std.proofs.Common.{◌≡◌, inl, inr, ◌∙◌, refl, sym, ap, ℕ, zero, suc, ◌+◌, ◌*◌, ◌≤◌, Bool, false, List, [], ◌∷◌, length, map, sum, Option, Some, None, arith}
 use Rattle.std.specs.Prelude.{fold, slice_index_or}
-use Rattle.std.specs.List.{AllByRecursion, zip}
-use Rattle.std.proofs.Math.Nat.{mul-le-mul}
-use Rattle.std.proofs.lemmas.Bool.{cases_lt}
-use Rattle.std.proofs.lemmas.List.{get_or_past, length-map, length-replicate}
-use Rattle.std.proofs.lemmas.List.FromFn.{length-map-range_with_len}
-use Rattle.std.proofs.lemmas.List.Sums.{get_or-le-sum_by}
-use Rattle.instruction_set.specs.declared.letter.Letter.{Letter}
-use Rattle.logic_tasks.specs.Inputs.{HasTopBytes, inputs_of}
-use Rattle.logic_tasks.proofs.InputsLaws.{inputs_of-top}
-use Rattle.logic_tasks.specs.TaskSet.{no_tasks}
-use Rattle.random_streams.specs.declared.purpose.Purpose.TheVariants.{Run}
-use Rattle.random_streams.specs.RandomStream.{draw}
-use Rattle.birth_board.specs.declared.placing.Placing.{Placing}
-use Rattle.organism.specs.Lived.{IsSoundOrganism, beginning}
-use Rattle.organism.specs.OrganismState.{new_organism}
-use Rattle.organism.specs.UpdateLife.{life}
-use Rattle.organism.specs.OrganismLife.{life_by}
-use Rattle.world_config.specs.Events.{EventValue, WhatValue, inject, clear, rate}
-use Rattle.world_config.specs.Values.{ConfigValues}
-use Rattle.world_rules.specs.Lives.{CellLife, life_at, life_of, lives_of, no_life, slice_at, slices_at}
-use Rattle.world_rules.specs.Scene.{Scene, cells_from, next_id}
-use Rattle.world_rules.specs.Settings.{settings_at, placing_round_at, torus_of}
-use Rattle.world_rules.specs.Update.{Delivery, after_births, after_burials, after_event, after_events, after_lives, after_what, birth_link, births_of, child_of_birth, deaths_of, events_at, last_scene, lives_after, next_scene, next_world, placings_of, scene_of_lives, with_newborn}
-use Rattle.world_rules.specs.World.{Occupant, World, first_world, founder_link, founder_of, founder_words, ids_of}
-use Rattle.world_rules.specs.WorldRun.{world_after}
-use Rattle.world_laws.specs.Ranges.{HasFewIds, HaveOwnIds, IsInRange, StandInRange, StayInRange}
-use Rattle.world_laws.specs.LowerLaws.{LifeLaws}
-use Rattle.world_laws.specs.Bounds.{FitsWhat, IsConfig}
+use Rattle.world_laws.proofs.Prelude.{AllByRecursion, zip, mul-le-mul, cases_lt, get_or_past, length-map, length-replicate, length-map-range_with_len, get_or-le-sum_by, Letter, HasTopBytes, inputs_of, inputs_of-top, no_tasks, Run, draw, Placing, IsSoundOrganism, beginning, life_by, new_organism, life, EventValue, WhatValue, inject, clear, rate, ConfigValues, CellLife, life_at, life_of, lives_of, no_life, slice_at, slices_at, Scene, cells_from, next_id, Occupant, World, first_world, founder_link, founder_of, founder_words, ids_of, settings_at, placing_round_at, torus_of, Delivery, after_births, after_burials, after_event, after_events, after_lives, after_what, birth_link, births_of, child_of_birth, deaths_of, events_at, last_scene, lives_after, next_scene, next_world, placings_of, scene_of_lives, with_newborn, world_after, HasFewIds, HaveOwnIds, IsInRange, StandInRange, StayInRange, LifeLaws, FitsWhat, IsConfig}
 use Rattle.world_laws.proofs.Configs.{FitsPlaced, events_fit}
 use Rattle.world_laws.proofs.Each.{all_births, all_lives, each_left, each_with, fails_test, life_there, stood_before}
 use Rattle.world_laws.proofs.AfterLives.{IsBorn, births_born}

@@ -1,13 +1,7 @@
 -- Every run's log is a good one, and replays to who lives at its end.
 use Rattle.std.proofs.Common.{◌≡◌, ℕ, ◌≤◌, List}
 use Rattle.std.specs.Prelude.{◌↔◌}
-use Rattle.log_lines.specs.Line.{Line}
-use Rattle.lineage_log.specs.LogGrammar.{IsGoodLog, Reads, lines_text}
-use Rattle.world_config.specs.Values.{ConfigValues}
-use Rattle.world_rules.specs.LogText.{log_text}
-use Rattle.world_rules.specs.Laws.{ReplaysToLiving}
-use Rattle.world_laws.specs.LowerLaws.{LifeLaws}
-use Rattle.world_laws.specs.Bounds.{IsConfig}
+use Rattle.world_laws.proofs.Prelude.{Line, IsGoodLog, Reads, lines_text, ConfigValues, log_text, ReplaysToLiving, LifeLaws, IsConfig}
 use Rattle.world_laws.proofs.WholeLogs.{run_lines, run_whole, run_replays}
 use Rattle.world_laws.proofs.RunForms.{run_forms, text_is}
 

@@ -1,23 +1,12 @@
 -- Each line of a run has its form, and together they are the text of its log.
 use Rattle.std.proofs.Common.{◌≡◌, ℕ, zero, suc, ◌+◌, ◌*◌, ◌<◌, ◌≤◌, [], ◌∷◌, ◌++◌, length, refl, arith}
-use Rattle.std.proofs.lemmas.List.{append_assoc, append-nil}
+use Rattle.world_laws.proofs.Prelude.{append_assoc, append-nil, End, HasForm, line_text, lines_text, ConfigValues, World, first_world, Scene, after_lives, after_burials, deaths_of, births_of, placings_of, turns_of, after_births, events_at, after_events, last_scene, lives_after, world_after, death_lines, birth_lines, event_lines, lines_of_lives, update_lines, head_line, head_text, update_text, end_text, updates_text, log_text, LifeLaws, IsConfig, size_of}
 use Rattle.std.proofs.lemmas.List.Concat.{flat_map-append}
-use Rattle.log_lines.specs.Line.{End}
-use Rattle.log_lines.specs.LineText.{HasForm, line_text}
-use Rattle.lineage_log.specs.LogGrammar.{lines_text}
-use Rattle.world_config.specs.Values.{ConfigValues}
-use Rattle.world_rules.specs.World.{World, first_world}
-use Rattle.world_rules.specs.Scene.{Scene}
-use Rattle.world_rules.specs.Update.{after_lives, after_burials, deaths_of, births_of, placings_of, turns_of, after_births, events_at, after_events, last_scene, lives_after}
-use Rattle.world_rules.specs.WorldRun.{world_after}
-use Rattle.world_rules.specs.LogText.{death_lines, birth_lines, event_lines, lines_of_lives, update_lines, head_line, head_text, update_text, end_text, updates_text, log_text}
-use Rattle.world_laws.specs.LowerLaws.{LifeLaws}
 use Rattle.world_laws.proofs.Mirror.{People}
 use Rattle.world_laws.proofs.UpdateLines.{scene_deaths, scene_births}
 use Rattle.world_laws.proofs.Updates.{scene_last}
 use Rattle.world_laws.proofs.Placements.{all_append}
 use Rattle.world_laws.proofs.AfterLives.{births_born, sound_kept}
-use Rattle.world_laws.specs.Bounds.{IsConfig, size_of}
 use Rattle.world_laws.proofs.Configs.{events_fit, events_few, few_cells, genome_fits}
 use Rattle.world_laws.proofs.Sounds.{Goes, goes_deaths, goes_births}
 use Rattle.world_laws.proofs.Runs.{IsRun, scene_ended, lives_lawful, deliveries_lawful, placed_lawful, update_goes, few_born, few_come}

@@ -1,23 +1,9 @@
 -- The lines of a run take the reader from the founder's world to that after its updates.
 use Rattle.std.proofs.Common.{◌≡◌, ℕ, suc, ◌+◌, ◌<◌, ◌≤◌, List, [], ◌∷◌, map, length, ◌∙◌, arith}
 use Rattle.std.specs.Prelude.{slice_index_or}
-use Rattle.std.specs.List.{AllByRecursion, range_with_len}
-use Rattle.std.proofs.lemmas.List.{length-map}
-use Rattle.std.proofs.lemmas.List.FromFn.{length-map-range_with_len, length-range_with_len}
+use Rattle.world_laws.proofs.Prelude.{AllByRecursion, range_with_len, length-map, length-map-range_with_len, length-range_with_len, Placing, Within, IsSoundOrganism, EventValue, WhatValue, inject, clear, rate, ConfigValues, World, ids_of, Scene, next_id, torus_of, placing_round_at, no_life, slice_at, life_at, lives_of, Delivery, after_lives, after_burials, deaths_of, births_of, placings_of, events_at, last_scene, scene_of_lives, lives_after, next_scene, next_world, lines_of_lives, update_lines, LifeLaws, IsConfig, size_of, FitsWhat}
 use Rattle.std.proofs.lemmas.Slice.Zip.{length-zip}
-use Rattle.birth_board.specs.declared.placing.Placing.{Placing}
 use Rattle.birth_board.proofs.PlacementLemmas.{placements_number}
-use Rattle.lineage_log.specs.Order.{Within}
-use Rattle.organism.specs.Lived.{IsSoundOrganism}
-use Rattle.world_config.specs.Events.{EventValue, WhatValue, inject, clear, rate}
-use Rattle.world_config.specs.Values.{ConfigValues}
-use Rattle.world_rules.specs.World.{World, ids_of}
-use Rattle.world_rules.specs.Settings.{torus_of, placing_round_at}
-use Rattle.world_rules.specs.Lives.{no_life, slice_at, life_at, lives_of}
-use Rattle.world_rules.specs.Scene.{Scene, next_id}
-use Rattle.world_rules.specs.Update.{Delivery, after_lives, after_burials, deaths_of, births_of, placings_of, events_at, last_scene, scene_of_lives, lives_after, next_scene, next_world}
-use Rattle.world_rules.specs.LogText.{lines_of_lives, update_lines}
-use Rattle.world_laws.specs.LowerLaws.{LifeLaws}
 use Rattle.world_laws.proofs.Mirror.{People, between, seen_in, Tells}
 use Rattle.world_laws.proofs.Scenes.{Each, IsScene}
 use Rattle.world_laws.proofs.UpdateLines.{IsWhat, IsEvent}
@@ -25,7 +11,6 @@ use Rattle.world_laws.proofs.Updates.{IsWorld, people_after, world_left, scene_b
 use Rattle.world_laws.proofs.Placements.{placements_in}
 use Rattle.world_laws.proofs.LivesLemmas.{AreLives, lives_are}
 use Rattle.world_laws.proofs.AfterLives.{IsDelivery, folk_kept, births_lawful, turns_lawful}
-use Rattle.world_laws.specs.Bounds.{IsConfig, size_of, FitsWhat}
 use Rattle.world_laws.proofs.Configs.{filter_few, FitsPlaced, events_fit, few_cells}
 use Rattle.world_laws.proofs.Sounds.{Goes, goes_more}
 use Rattle.world_laws.proofs.Endings.{all_born, all_come, end_goes, next_sound}

@@ -1,16 +1,7 @@
 -- What holds of a world within an update, and stays so as organisms leave it and come into it.
 use Rattle.std.proofs.Common.{◌≡◌, ◌≢◌, ℕ, ◌+◌, ◌<◌, ◌≤◌, List, [], ◌∷◌, ◌++◌, map, length, drop, Option, Some, None, refl, sym, ap, ◌∙◌, arith, length-append, ◌⊎◌, inl, inr}
 use Rattle.std.specs.Prelude.{slice_get, slice_set, slice_index_or}
-use Rattle.std.specs.Option.{option_to_list}
-use Rattle.std.proofs.lemmas.List.{drop-append-le, length-set, length-map, length-drop, map-append, append_assoc, append-nil}
-use Rattle.std.proofs.lemmas.Option.{slice_get_within}
-use Rattle.std.proofs.lemmas.Bool.{cases_eq}
-use Rattle.instruction_set.specs.declared.letter.Letter.{Letter}
-use Rattle.organism.specs.OrganismState.{OrganismState}
-use Rattle.lineage_log.specs.Links.{Link}
-use Rattle.lineage_log.proofs.StandingLemmas.{get_other}
-use Rattle.world_rules.specs.World.{Occupant, id_of, id_at}
-use Rattle.world_rules.specs.Scene.{Scene, standing_at, with_death, with_newcomer}
+use Rattle.world_laws.proofs.Prelude.{option_to_list, drop-append-le, length-set, length-map, length-drop, map-append, append_assoc, append-nil, slice_get_within, cases_eq, Letter, OrganismState, Link, get_other, Occupant, id_of, id_at, Scene, standing_at, with_death, with_newcomer}
 use Rattle.world_laws.proofs.ListLemmas.{get_written, get_emptied, get_more, get_seam, get_last, set_nothing, got_some}
 use Rattle.world_laws.proofs.Mirror.{People, written, people_in, genomes_of}
 

@@ -1,27 +1,10 @@
 -- Organisms stay sound as a world's update ends, and ids stay few and each of one organism.
 use Rattle.std.proofs.Common.{◌≡◌, ℕ, ◌+◌, ◌-◌, ◌*◌, ◌≤◌, List, [], ◌∷◌, ◌++◌, length, Option, Some, None, refl, ap, ◌∙◌, arith, length-append, inl, inr}
 use Rattle.std.specs.Prelude.{fold}
-use Rattle.std.specs.List.{AllByRecursion, zip}
-use Rattle.std.specs.Option.{option_to_list}
-use Rattle.std.proofs.lemmas.List.{length-set}
-use Rattle.std.proofs.lemmas.List.FromFn.{length-range_with_len}
-use Rattle.instruction_set.specs.declared.letter.Letter.{Letter}
-use Rattle.birth_board.specs.declared.placing.Placing.{Placing}
-use Rattle.organism.specs.OrganismState.{OrganismState}
-use Rattle.organism.specs.Lived.{IsSoundOrganism}
-use Rattle.logic_tasks.specs.TaskSet.{no_tasks}
-use Rattle.lineage_log.specs.Links.{Link}
-use Rattle.world_config.specs.Events.{EventValue, WhatValue, inject, clear, rate}
-use Rattle.world_config.specs.Values.{ConfigValues}
-use Rattle.world_rules.specs.World.{Occupant, founder_of, founder_link}
-use Rattle.world_rules.specs.Scene.{Scene, next_id, standing_at, with_death, with_deaths, cells_from, with_newcomer}
-use Rattle.world_rules.specs.Update.{Delivery, child_of_birth, birth_link, with_newborn, after_what, after_event}
-use Rattle.world_laws.specs.LowerLaws.{LifeLaws}
-use Rattle.world_laws.specs.Ranges.{HaveOwnIds}
+use Rattle.world_laws.proofs.Prelude.{AllByRecursion, zip, option_to_list, length-set, length-range_with_len, Letter, Placing, OrganismState, IsSoundOrganism, no_tasks, Link, EventValue, WhatValue, inject, clear, rate, ConfigValues, Occupant, founder_of, founder_link, Scene, next_id, standing_at, with_death, with_deaths, cells_from, with_newcomer, Delivery, child_of_birth, birth_link, with_newborn, after_what, after_event, LifeLaws, HaveOwnIds, IsConfig, FitsWhat}
 use Rattle.world_laws.proofs.ListLemmas.{get_emptied}
 use Rattle.world_laws.proofs.Scenes.{apart_new, Each, stands_with}
 use Rattle.world_laws.proofs.AfterLives.{IsBorn}
-use Rattle.world_laws.specs.Bounds.{IsConfig, FitsWhat}
 use Rattle.world_laws.proofs.Configs.{few_cells, FitsPlaced, genome_fits}
 
 -- who stands in a scene has an id of its own

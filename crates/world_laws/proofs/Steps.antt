@@ -1,24 +1,11 @@
 -- One line at a time: each takes the reader from the scene before it to the scene after it.
 use Rattle.std.proofs.Common.{◌≡◌, ℕ, ◌+◌, ◌<◌, ◌≤◌, true, List, [], ◌∷◌, ◌++◌, map, length, drop, Option, Some, None, Result, Ok, refl, sym, ap, ◌∙◌, arith}
 use Rattle.std.specs.Prelude.{slice_get, slice_set, ◌==◌, nat_lt}
-use Rattle.std.proofs.lemmas.List.{map-set, map-append}
-use Rattle.std.proofs.lemmas.Option.{slice_get-get_or, slice_get-map, slice_get_within}
-use Rattle.std.proofs.lemmas.Bool.Decides.{nat_tests}
-use Rattle.instruction_set.specs.declared.letter.Letter.{Letter}
-use Rattle.mutations.specs.BirthRecord.{BirthRecord, child_of}
+use Rattle.world_laws.proofs.Prelude.{map-set, map-append, slice_get-get_or, slice_get-map, slice_get_within, nat_tests, Letter, BirthRecord, child_of, Death, Birth, Injected, Cleared, Rate, Stage, Dying, Happening, holds, Reader, may_die, may_be_born, parent_in, LogPlace, Within, told_death, told_birth, told_injected, told_cleared, told_rate, Link, OrganismState, Occupant, id_of, ids_of, id_at, Scene, standing_at, with_death, with_newcomer}
 use Rattle.mutations.specs.declared.rate_name.RateName.{RateName}
-use Rattle.log_lines.specs.Line.{Death, Birth, Injected, Cleared, Rate}
 use Rattle.lineage_log.specs.declared.reason.Reason.{Reason}
-use Rattle.lineage_log.specs.declared.stage.Stage.{Stage}
-use Rattle.lineage_log.specs.declared.stage.Stage.TheVariants.{Dying, Placing, Happening}
-use Rattle.lineage_log.specs.Slots.{holds}
-use Rattle.lineage_log.specs.Order.{LogPlace, Within, told_death, told_birth, told_injected, told_cleared, told_rate}
-use Rattle.lineage_log.specs.Reader.{Reader, may_die, may_be_born, parent_in}
+use Rattle.lineage_log.specs.declared.stage.Stage.TheVariants.{Placing}
 use Rattle.lineage_log.specs.Reader as reader
-use Rattle.lineage_log.specs.Links.{Link}
-use Rattle.organism.specs.OrganismState.{OrganismState}
-use Rattle.world_rules.specs.World.{Occupant, id_of, ids_of, id_at}
-use Rattle.world_rules.specs.Scene.{Scene, standing_at, with_death, with_newcomer}
 use Rattle.world_laws.proofs.ListLemmas.{get_more, eqb_same}
 use Rattle.world_laws.proofs.Mirror.{People, written, people_in, mirror, seen_in, Passes, one_line}
 use Rattle.world_laws.proofs.Scenes.{who_stands, people_number, people_grown}

@@ -1,33 +1,15 @@
 -- Who comes and who goes, from the lives of an update to its last event.
 use Rattle.std.proofs.Common.{◌≡◌, ◌⊎◌, inl, inr, ◌∙◌, refl, sym, ap, subst, unwrap_or, ℕ, ◌+◌, ◌<◌, ◌≤◌, true, List, [], ◌∷◌, ◌++◌, length, drop, fold, Option, Some, None, arith, length-append, eqb-true}
 use Rattle.std.specs.Prelude.{nat_eq, slice_get, slice_set, option_map}
+use Rattle.world_laws.proofs.Prelude.{AllByRecursion, IsDistinct, list_any, option_to_list, cases_eq, cases_lt, false_from_ne_true, append-nil, append_assoc, drop-append-le, drop_all, get_or_from_slice_get, slice_get-get_or, slice_get-map, slice_get_within, Placing, OrganismState, new_organism, Link, get_other, EventValue, WhatValue, inject, clear, rate, ConfigValues, Occupant, World, founder_link, founder_of, id_of, ids_of, Scene, cells_from, next_id, standing_at, with_death, with_deaths, with_newcomer, slice_at, Delivery, after_births, after_burials, after_event, after_events, after_what, birth_link, births_of, child_of_birth, deaths_of, events_at, last_scene, lives_after, next_scene, placings_of, scene_of_lives, turns_of, with_newborn, world_after, HasBeen, HasGone, IsStanding, IsTurnover, LifeLaws, IsConfig, size_of}
 use Rattle.std.specs.Cmp.{nat_eq_equiv}
-use Rattle.std.specs.List.{AllByRecursion, IsDistinct, list_any}
-use Rattle.std.specs.Option.{option_to_list}
-use Rattle.std.proofs.lemmas.Bool.{cases_eq, cases_lt, false_from_ne_true}
-use Rattle.std.proofs.lemmas.List.{append-nil, append_assoc, drop-append-le, drop_all}
 use Rattle.std.proofs.lemmas.List.Folds.{Any-from_list_any}
 use Rattle.std.proofs.lemmas.Map.Keys.{IsDistinct-push}
-use Rattle.std.proofs.lemmas.Option.{get_or_from_slice_get, slice_get-get_or, slice_get-map, slice_get_within}
-use Rattle.birth_board.specs.declared.placing.Placing.{Placing}
-use Rattle.organism.specs.OrganismState.{OrganismState, new_organism}
-use Rattle.lineage_log.specs.Links.{Link}
-use Rattle.lineage_log.proofs.StandingLemmas.{get_other}
-use Rattle.world_config.specs.Events.{EventValue, WhatValue, inject, clear, rate}
-use Rattle.world_config.specs.Values.{ConfigValues}
-use Rattle.world_rules.specs.World.{Occupant, World, founder_link, founder_of, id_of, ids_of}
-use Rattle.world_rules.specs.Lives.{slice_at}
-use Rattle.world_rules.specs.Scene.{Scene, cells_from, next_id, standing_at, with_death, with_deaths, with_newcomer}
-use Rattle.world_rules.specs.Update.{Delivery, after_births, after_burials, after_event, after_events, after_what, birth_link, births_of, child_of_birth, deaths_of, events_at, last_scene, lives_after, next_scene, placings_of, scene_of_lives, turns_of, with_newborn}
-use Rattle.world_rules.specs.WorldRun.{world_after}
-use Rattle.world_laws.specs.Turnover.{HasBeen, HasGone, IsStanding, IsTurnover}
-use Rattle.world_laws.specs.LowerLaws.{LifeLaws}
 use Rattle.world_laws.proofs.ListLemmas.{get_emptied, get_written, get_last, get_more, get_seam}
 use Rattle.world_laws.proofs.Mirror.{People}
 use Rattle.world_laws.proofs.Scenes.{IsScene, Stands, gone_more, scene_death, scene_newcomer, stands_with, who_stands}
 use Rattle.world_laws.proofs.UpdateLines.{IsEvent, IsTurn, IsWhat, scene_birth, scene_births, scene_deaths, scene_what}
 use Rattle.world_laws.proofs.AfterLives.{folk_kept, left_by}
-use Rattle.world_laws.specs.Bounds.{IsConfig, size_of}
 use Rattle.world_laws.proofs.Configs.{events_fit}
 use Rattle.world_laws.proofs.Runs.{IsRun, ended, events_are, lives_lawful, scene_ended, turns_are}
 use Rattle.world_laws.proofs.WholeLogs.{kept_after, run_after}
@@ -190,7 +172,8 @@ module _ (cells : List (Option Occupant)) (before : List Link) (size : ℕ) (sta
           | inr came ↦ elim (cases_lt id (length scene.everyone)) [
             | inl low ↦ older id (inr (came.0, low))
             | inr high ↦
-                let here = get_written scene.cells at (Some new) (omega (arith, within, is.sized)) in
+                let here = get_written scene.cells at (Some new)
+                (omega (arith, within, is.sized)) in
                 inl (at, new, here, omega (arith, next, high, came.1, more))
           ]
         ];

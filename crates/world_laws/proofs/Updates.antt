@@ -1,27 +1,7 @@
 -- The lines of an update take the reader from one world to the next.
 use Rattle.std.proofs.Common.{◌≡◌, ℕ, suc, ◌+◌, ◌-◌, ◌≤◌, true, List, [], ◌∷◌, ◌++◌, map, length, drop, Option, Some, None, Ok, refl, sym, ap, ◌∙◌, arith, inl, inr}
 use Rattle.std.specs.Prelude.{slice_get, slice_set, option_map}
-use Rattle.std.specs.List.{AllByRecursion}
-use Rattle.std.proofs.lemmas.List.{length-set, length-map, append-nil, drop_all}
-use Rattle.std.proofs.lemmas.Bool.{cases_lt}
-use Rattle.std.proofs.lemmas.Option.{slice_get-map}
-use Rattle.instruction_set.specs.declared.letter.Letter.{Letter}
-use Rattle.log_lines.specs.Line.{Count}
-use Rattle.lineage_log.specs.declared.stage.Stage.{Stage}
-use Rattle.lineage_log.specs.declared.stage.Stage.TheVariants.{Quiet}
-use Rattle.lineage_log.specs.Slots.{taken}
-use Rattle.lineage_log.specs.Order.{Within, told_count, at_next_update}
-use Rattle.lineage_log.proofs.StandingLemmas.{without}
-use Rattle.lineage_log.specs.Reader.{may_be_born}
-use Rattle.lineage_log.specs.Links.{Link}
-use Rattle.lineage_log.proofs.StandingLemmas.{get_other}
-use Rattle.world_config.specs.Values.{ConfigValues}
-use Rattle.world_rules.specs.World.{Occupant, World, id_of, ids_of}
-use Rattle.world_rules.specs.Lives.{CellLife}
-use Rattle.world_rules.specs.Scene.{Scene}
-use Rattle.world_rules.specs.Statistics.{scene_stats, stats_in}
-use Rattle.world_rules.specs.Update.{after_lives, deaths_of, after_burials, births_of, turns_of, after_births, events_at, after_events, last_scene}
-use Rattle.world_rules.specs.LogText.{death_lines, birth_lines, event_lines, lines_of_lives}
+use Rattle.world_laws.proofs.Prelude.{AllByRecursion, length-set, length-map, append-nil, drop_all, cases_lt, slice_get-map, Letter, Count, Stage, Quiet, taken, may_be_born, Within, told_count, at_next_update, without, get_other, Link, ConfigValues, Occupant, World, id_of, ids_of, Scene, CellLife, scene_stats, stats_in, after_lives, deaths_of, after_burials, births_of, turns_of, after_births, events_at, after_events, last_scene, death_lines, birth_lines, event_lines, lines_of_lives}
 use Rattle.world_laws.proofs.ListLemmas.{get_emptied, get_left, get_right, get_dropped, eqb_same}
 use Rattle.world_laws.proofs.Mirror.{People, written, people_in, genomes_of, mirror, between, seen_in, Tells, one_line, more_lines}
 use Rattle.world_laws.proofs.Scenes.{Stands, Known, Apart, Agree, IsScene, people_number}

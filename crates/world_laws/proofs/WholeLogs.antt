@@ -1,28 +1,12 @@
 -- The whole log of a run: its lines in order, from the first to the last, and what they replay to.
 use Rattle.std.proofs.Common.{add-one, ◌≡◌, ℕ, zero, suc, ◌+◌, ◌*◌, ◌<◌, ◌≤◌, true, List, [], ◌∷◌, ◌++◌, map, Option, Some, None, Ok, refl, sym, ap, ◌∙◌, arith, inl, inr}
 use Rattle.std.specs.Prelude.{replicate, slice_get, slice_set, option_map, unwrap_or, nat_lt, ◌==◌}
-use Rattle.std.specs.List.{AllByRecursion, filter_map, enumerate_from}
-use Rattle.std.proofs.lemmas.List.{map-set, length-set, length-replicate}
-use Rattle.std.proofs.lemmas.Option.{slice_get-map}
-use Rattle.std.proofs.lemmas.Bool.Decides.{nat_tests}
-use Rattle.instruction_set.specs.declared.letter.Letter.{Letter}
-use Rattle.log_lines.specs.Line.{Line, End}
-use Rattle.lineage_log.specs.Order.{LogPlace, Before, Within, After, IsWhole, told_start, told_end, told_all}
-use Rattle.lineage_log.specs.Replay.{Seen, seen_on, residents_from, replay_of}
-use Rattle.lineage_log.specs.Links.{Link}
-use Rattle.organism.specs.OrganismState.{new_organism}
-use Rattle.world_config.specs.Values.{ConfigValues}
-use Rattle.world_rules.specs.World.{Occupant, ids_of, founder_of, founder_link, empty_cells, first_occupant, first_world}
-use Rattle.world_rules.specs.Update.{next_scene}
-use Rattle.world_rules.specs.WorldRun.{world_after, resident_of, residents_of_world}
-use Rattle.world_rules.specs.LogText.{update_lines, head_line}
-use Rattle.world_laws.specs.LowerLaws.{LifeLaws}
+use Rattle.world_laws.proofs.Prelude.{AllByRecursion, filter_map, enumerate_from, map-set, length-set, length-replicate, slice_get-map, nat_tests, Letter, Line, End, LogPlace, Before, Within, After, IsWhole, told_start, told_end, told_all, Seen, seen_on, residents_from, replay_of, Link, new_organism, ConfigValues, Occupant, ids_of, founder_of, founder_link, empty_cells, first_occupant, first_world, next_scene, world_after, resident_of, residents_of_world, update_lines, head_line, LifeLaws, IsConfig, size_of}
 use Rattle.world_laws.proofs.ListLemmas.{map-replicate, eqb_same}
 use Rattle.world_laws.proofs.Mirror.{People, written, genomes_of, between, seen_in, Tells, one_line, more_lines, no_lines}
 use Rattle.world_laws.proofs.Scenes.{Stands, Known, Agree, stands_with}
 use Rattle.world_laws.proofs.Placements.{all_append}
 use Rattle.world_laws.proofs.Updates.{written_there, people_after}
-use Rattle.world_laws.specs.Bounds.{IsConfig, size_of}
 use Rattle.world_laws.proofs.Sounds.{sound_founder}
 use Rattle.world_laws.proofs.Runs.{IsRun, update_tells, run_next}
 

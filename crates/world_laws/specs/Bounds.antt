@@ -1,9 +1,7 @@
 -- The bounds of a configuration's values (docs/FORMATS.md, "The configuration").
 use Rattle.std.specs.Prelude.{ℕ, ◌*◌, ◌<◌, ◌≤◌, length}
-use Rattle.std.specs.List.{AllByRecursion}
-use Rattle.divide_rules.specs.Rules.{AreRules}
+use Rattle.world_laws.specs.Prelude.{AllByRecursion, AreRules, ConfigValues}
 use Rattle.world_config.specs.Events.{WhatValue, inject, clear, rate}
-use Rattle.world_config.specs.Values.{ConfigValues}
 
 -- the number of cells
 abbrev pub size_of : ConfigValues → ℕ

@@ -1,7 +1,6 @@
-pub use Rattle.world_rules.specs.Laws
+pub mod Prelude
+pub use Rattle.world_rules.specs.LogText
 pub mod Bounds
-pub mod Heredity
-pub mod Keeping
-pub mod LowerLaws
-pub mod Ranges
 pub mod Turnover
+pub mod Ranges
+pub mod LowerLaws

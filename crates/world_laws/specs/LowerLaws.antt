@@ -1,21 +1,10 @@
 -- What the laws of runs take from the crates below.
-use Rattle.std.specs.Prelude.{◌≡◌, ℕ, ◌*◌, ◌^◌, ◌<◌, ◌≤◌, Bool, List, [], ◌∷◌, ◌++◌, length, Some}
-use Rattle.std.specs.Prelude.{slice_get, sum}
+use Rattle.std.specs.Prelude.{◌≡◌, ℕ, ◌*◌, ◌^◌, ◌<◌, ◌≤◌, Bool, List, [], ◌∷◌, ◌++◌, length, Some, slice_get, sum}
+use Rattle.world_laws.specs.Prelude.{AreRules, draw, HasLived, IsSoundOrganism, beginning, OrganismState, new_organism, SettingNumbers, life, Link, ConfigValues, AreNumbered, IsNumberedWorld, descent_line_of, descent_lines_of, line_of_parent, world_after}
 use Rattle.instruction_set.specs.declared.letter.Letter.{Letter}
 use Rattle.genome.specs.Genome.{IsGenome}
-use Rattle.divide_rules.specs.Rules.{AreRules}
 use Rattle.random_streams.specs.declared.purpose.Purpose.{Purpose}
-use Rattle.random_streams.specs.RandomStream.{draw}
 use Rattle.merit_slices.specs.Slices.{slices_of}
-use Rattle.organism.specs.Lived.{HasLived, IsSoundOrganism, beginning}
-use Rattle.organism.specs.OrganismState.{OrganismState, new_organism}
-use Rattle.organism.specs.SettingNumbers.{SettingNumbers}
-use Rattle.organism.specs.UpdateLife.{life}
-use Rattle.lineage_log.specs.Links.{Link}
-use Rattle.world_config.specs.Values.{ConfigValues}
-use Rattle.world_rules.specs.Descent.{AreNumbered, IsNumberedWorld, descent_line_of}
-use Rattle.world_rules.specs.Descent.{descent_lines_of, line_of_parent}
-use Rattle.world_rules.specs.WorldRun.{world_after}
 
 -- what is proved of one life, of words, of new organisms and of slices
 pub record LifeLaws : Type 0 where

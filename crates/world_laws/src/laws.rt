@@ -1,25 +1,15 @@
 // Laws of every run (docs/WORLD.md, "Time slices", "The log of a run" and "Lines of descent").
 ghost use Rattle.std.specs.Prelude.{◌≡◌, ℕ, ◌+◌, ◌*◌, ◌≤◌, ◌^◌, All, IfSome, List, Some, map, slice_get, sum, ◌<◌};
-ghost use Rattle.log_lines.specs.Line.{Line};
+ghost use Rattle.world_laws.specs.Prelude.{Line, IsSoundOrganism, SettingNumbers, LifeState, life, ConfigValues, line_in, Occupant, World, world_after};
 ghost use Rattle.lineage_log.specs.LogGrammar.{Reads};
-ghost use Rattle.organism.specs.Lived.{IsSoundOrganism};
-ghost use Rattle.organism.specs.SettingNumbers.{SettingNumbers};
-ghost use Rattle.organism.specs.UpdateLife.{LifeState, life};
 ghost use Rattle.world_config.specs.Shown.{values_of};
-ghost use Rattle.world_config.specs.Values.{ConfigValues};
-ghost use Rattle.world_rules.specs.Descent.{line_in};
-ghost use Rattle.world_rules.specs.Laws.{ReplaysToLiving};
+ghost use Rattle.world_rules.specs.LogText.{ReplaysToLiving, log_text};
 ghost use Rattle.world_rules.specs.Lives.{merit_in};
-ghost use Rattle.world_rules.specs.LogText.{log_text};
 ghost use Rattle.world_rules.specs.Update.{next_scene, next_world};
-ghost use Rattle.world_rules.specs.World.{Occupant, World};
-ghost use Rattle.world_rules.specs.WorldRun.{world_after};
-ghost use Rattle.world_laws.specs.Keeping.{AreSound, HasKept, LiveOn};
+ghost use Rattle.world_laws.specs.Ranges.{AreSound, HasKept, LiveOn, GivesSmallId, HasFewIds, IsInRange, StandInRange, StayInRange};
 ghost use Rattle.world_laws.specs.LowerLaws.{LifeLaws, LineLaws};
-ghost use Rattle.world_laws.specs.Ranges.{GivesSmallId, HasFewIds, IsInRange, StandInRange, StayInRange};
 ghost use Rattle.world_laws.specs.Bounds.{IsConfig};
-ghost use Rattle.world_laws.specs.Heredity.{AreDescended, IsDescent, IsLastOfLine};
-ghost use Rattle.world_laws.specs.Turnover.{IsTurnover};
+ghost use Rattle.world_laws.specs.Turnover.{AreDescended, IsDescent, IsLastOfLine, IsTurnover};
 
 use world_config::Config;
 

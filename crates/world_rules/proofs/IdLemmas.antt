@@ -1,23 +1,13 @@
 -- The ids of a world, through an update.
 use Rattle.std.proofs.Common.{◌≡◌, refl, sym, ap, ℕ, zero, suc, ◌+◌, ◌*◌, ◌<◌, ◌≤◌, List, [], ◌∷◌, ◌++◌, length, map, fold, replicate, Option, None, Some, arith, ◌⊎◌, inl, inr, length-append}
 use Rattle.std.specs.Prelude.{All, slice_get, slice_index_or}
-use Rattle.std.specs.List.{AllByRecursion, zip, flat_map, enumerate_from, range_with_len}
+use Rattle.world_rules.proofs.Prelude.{AllByRecursion, zip, flat_map, enumerate_from, range_with_len, Placing, OrganismState, life_by, Link, Occupant, World, id_of, founder_of, founder_link, first_world, Scene, next_id, with_death, cells_from, with_newcomer, CellLife, life_of, life_at, slice_at, lives_of, Delivery, delivery_of, births_by, births_in, births_of, deaths_of, after_lives, after_burials, placings_of, birth_link, child_of_birth, with_newborn, turns_of, after_births, after_what, after_event, events_at, after_events, last_scene, scene_of_lives, lives_after, next_scene, next_world, world_of, world_after, IsBelow, HasPlaceAsId, AreNumbered, IsNumberedWorld}
 use Rattle.std.proofs.lemmas.Bool.{cases_lt}
 use Rattle.std.proofs.lemmas.List.{get_or_past}
 use Rattle.std.proofs.lemmas.List.Elements.{All-map, All-set, All-weaker, All-replicate, recursion_from_All}
-use Rattle.birth_board.specs.declared.placing.Placing.{Placing}
 use Rattle.organism.specs.Newborns.{NewbornValue}
-use Rattle.organism.specs.OrganismState.{OrganismState}
-use Rattle.organism.specs.OrganismLife.{life_by}
-use Rattle.lineage_log.specs.Links.{Link}
 use Rattle.world_config.specs.Events.{EventValue, WhatValue, inject, clear, rate}
 use Rattle.world_config.specs.Values.{ConfigValues}
-use Rattle.world_rules.specs.World.{Occupant, World, id_of, founder_of, founder_link, first_world}
-use Rattle.world_rules.specs.Lives.{CellLife, life_of, life_at, slice_at, lives_of}
-use Rattle.world_rules.specs.Scene.{Scene, next_id, with_death, cells_from, with_newcomer}
-use Rattle.world_rules.specs.Update.{Delivery, delivery_of, births_by, births_in, births_of, deaths_of, after_lives, after_burials, placings_of, birth_link, child_of_birth, with_newborn, turns_of, after_births, after_what, after_event, events_at, after_events, last_scene, scene_of_lives, lives_after, next_scene, next_world, world_of}
-use Rattle.world_rules.specs.WorldRun.{world_after}
-use Rattle.world_rules.specs.Descent.{IsBelow, HasPlaceAsId, AreNumbered, IsNumberedWorld}
 
 -- a scene's ids are places
 abbrev IsNumberedScene : Scene → Type 0

@@ -1,3 +1,4 @@
+pub mod Prelude
 mod IdLemmas
 mod LineLemmas
 mod TinyPlacings

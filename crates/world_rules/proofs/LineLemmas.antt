@@ -1,10 +1,9 @@
 -- Lines of descent, by the place of an organism in the list of all.
 use Rattle.std.proofs.Common.{◌≡◌, ◌∙◌, refl, sym, ap, subst, ℕ, zero, suc, ◌+◌, ◌<◌, List, [], ◌∷◌, ◌++◌, length, get_or, fold, Option, None, Some, arith, length-append}
 use Rattle.std.specs.Prelude.{slice_get}
+use Rattle.world_rules.proofs.Prelude.{Link, line_of_parent, with_descent_line, descent_lines_of, descent_line_of, IsBelow, AreNumbered}
 use Rattle.std.proofs.Math.ListN.{get_or-append}
 use Rattle.std.proofs.Math.Seq.{get_or-append_seam}
-use Rattle.lineage_log.specs.Links.{Link}
-use Rattle.world_rules.specs.Descent.{line_of_parent, with_descent_line, descent_lines_of, descent_line_of, IsBelow, AreNumbered}
 
 -- with one organism more there is one line more
 length-with_line : (lines : List (List Link)) (link : Link)

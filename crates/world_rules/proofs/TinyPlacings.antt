@@ -1,14 +1,11 @@
 -- Where newborns are placed in a world of one cell, whatever the words are.
 use Rattle.std.proofs.Common.{◌≡◌, ℕ, zero, suc, ◌+◌, true, List, [], ◌∷◌, ◌++◌, length, replicate, Option, Some, None, refl, ap, ◌∙◌}
 use Rattle.std.specs.Prelude.{◌==◌, count_by, slice_index_or, slice_set}
+use Rattle.world_rules.proofs.Prelude.{Placing, Board, chosen_cell, placing_of, placing_words, next_board, placements_of, torus_of, placing_round_at, tiny}
 use Rattle.logic_tasks.specs.Inputs.{inputs_of}
 use Rattle.random_streams.specs.RandomStream.{scaled}
-use Rattle.birth_board.specs.declared.placing.Placing.{Placing}
 use Rattle.birth_board.specs.declared.placing_round.PlacingRound.{PlacingRound}
 use Rattle.birth_board.specs.Torus.{TorusNumbers, neighbours_of}
-use Rattle.birth_board.specs.Placement.{Board, chosen_cell, placing_of, placing_words, next_board, placements_of}
-use Rattle.world_rules.specs.Settings.{torus_of, placing_round_at}
-use Rattle.world_rules.specs.TinyWorlds.{tiny}
 
 -- eight zeros: the one cell, as each of its neighbours
 abbrev zeros : List ℕ

@@ -1,7 +1,7 @@
 -- Lines of descent (docs/WORLD.md, "Lines of descent"). For example, if the founder 0 bore 3, and 3
 -- bore 7, the line of 7 is the links of 0, 3 and 7.
 use Rattle.std.specs.Prelude.{◌≡◌, ℕ, ◌<◌, All, List, [], ◌∷◌, ◌++◌, length, Option, None, Some, fold, option_map, slice_get, slice_index_or}
-use Rattle.lineage_log.specs.Links.{Link}
+use Rattle.world_rules.specs.Prelude.{Link}
 use Rattle.world_rules.specs.World.{World, id_of, id_at}
 
 -- the line of a parent, by id; a founder has none

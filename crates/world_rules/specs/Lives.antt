@@ -2,14 +2,9 @@
 -- update"): each cell lives alone. For example, if only cell 1 of two cells has an organism, cell 0
 -- has no_life, and the life of cell 1 says what its organism became and bore.
 use Rattle.std.specs.Prelude.{ℕ, Bool, false, List, [], length, map, Option, None, Some, option_map, slice_index_or}
-use Rattle.std.specs.List.{range_with_len}
-use Rattle.random_streams.specs.declared.purpose.Purpose.TheVariants.{Run}
-use Rattle.random_streams.specs.RandomStream.{draw}
+use Rattle.world_rules.specs.Prelude.{range_with_len, Run, draw, NewbornValue, OrganismState, ConfigValues}
 use Rattle.merit_slices.specs.Slices.{slices_of}
-use Rattle.organism.specs.Newborns.{NewbornValue}
-use Rattle.organism.specs.OrganismState.{OrganismState}
-use Rattle.organism.specs.OrganismLife.{OrganismLife, life_by}
-use Rattle.world_config.specs.Values.{ConfigValues}
+use Rattle.organism.specs.Lived.{OrganismLife, life_by}
 use Rattle.world_rules.specs.World.{Occupant}
 use Rattle.world_rules.specs.Settings.{settings_at}
 

@@ -1,20 +1,15 @@
--- The log of a run (docs/WORLD.md, "The log of a run"; docs/FORMATS.md, "The log"). For example,
--- the log of a run of 0 updates is its `L` line and `E 0`. A line speaks of the scene before it:
--- that of a birth says who stood in the cell, and so dies.
-use Rattle.std.specs.Prelude.{ℕ, zero, suc, ◌+◌, List, [], ◌∷◌, ◌++◌, length, Option, option_map}
-use Rattle.std.specs.List.{filter_map, flat_map, scan}
-use Rattle.birth_board.specs.declared.placing.Placing.{Placing}
-use Rattle.lineage_log.specs.LogGrammar.{lines_text}
-use Rattle.log_lines.specs.Line.{Line, Start, Death, Birth, Injected, Cleared, Rate, Count, End}
-use Rattle.log_lines.specs.LineText.{line_text}
-use Rattle.world_config.specs.Events.{EventValue, WhatValue, inject, clear, rate}
-use Rattle.world_config.specs.Values.{ConfigValues}
-use Rattle.world_rules.specs.World.{World}
+-- The log of a run, from which alone one knows who lives at its end, in which cell and with which
+-- genome (docs/WORLD.md, "The log of a run"; docs/FORMATS.md, "The log"). For example, the log of a
+-- run of 0 updates is its `L` line and `E 0`. A line speaks of the scene before it: that of a birth
+-- says who stood in the cell, and so dies.
+use Rattle.std.specs.Prelude.{ℕ, zero, suc, ◌+◌, List, [], ◌∷◌, ◌++◌, length, Option, option_map, ◌≡◌}
+use Rattle.world_rules.specs.Prelude.{filter_map, flat_map, scan, Placing, Line, Start, Death, Birth, Injected, Cleared, Rate, Count, End, line_text, EventValue, WhatValue, inject, clear, rate, ConfigValues, replay_of}
+use Rattle.lineage_log.specs.LogGrammar.{lines_text, Reads}
+use Rattle.world_rules.specs.World.{World, Scene, next_id, standing_at, with_death, cells_from}
 use Rattle.world_rules.specs.Lives.{CellLife}
-use Rattle.world_rules.specs.Scene.{Scene, next_id, standing_at, with_death, cells_from}
 use Rattle.world_rules.specs.Statistics.{scene_stats}
 use Rattle.world_rules.specs.Update.{Delivery, after_lives, deaths_of, after_burials, births_of, with_newborn, turns_of, after_births, events_at, after_event, last_scene, lives_after}
-use Rattle.world_rules.specs.WorldRun.{world_after}
+use Rattle.world_rules.specs.WorldRun.{world_after, residents_of_world}
 
 -- the line of a death of age, where somebody stands in the cell
 abbrev pub death_line : Scene → ℕ → Option Line
@@ -98,3 +93,9 @@ updates_text config (suc n) = updates_text config n ++ update_text config (suc n
 -- the log of a run of so many updates
 unfoldable pub log_text : ConfigValues → ℕ → List ℕ
 log_text config updates = head_text config ++ updates_text config updates ++ end_text updates
+
+-- the log of a run is a good one, and replays to who lives at its end
+pub record ReplaysToLiving (config : ConfigValues) (updates : ℕ) : Type 0 where
+  pub lines : List Line
+  pub good : Reads (log_text config updates) lines
+  pub replays : replay_of lines ≡ residents_of_world (world_after config updates)

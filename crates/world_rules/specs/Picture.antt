@@ -2,10 +2,8 @@
 -- For example, `W 12 3 2 291 2 mmmmmmmm` says that after update 12 three organisms live, with two
 -- genomes and a sum of merits of 291, and that two of them have the dominant genome.
 use Rattle.std.specs.Prelude.{ℕ, List, [], ◌∷◌, ◌++◌, Option, None, Some, codes, decimal}
-use Rattle.census.specs.Counts.{GenotypeCount}
+use Rattle.world_rules.specs.Prelude.{GenotypeCount, words_text, ConfigValues}
 use Rattle.genome.specs.GenomeText.{letters_text_of}
-use Rattle.log_lines.specs.LineText.{words_text}
-use Rattle.world_config.specs.Values.{ConfigValues}
 use Rattle.world_rules.specs.Statistics.{stats_of, dominant_of}
 use Rattle.world_rules.specs.WorldRun.{world_after}
 

@@ -2,14 +2,12 @@
 -- For example, if an event of update 5 sets copy_error to 0, the rate of the key holds up to update
 -- 5, and 0 from update 6 on.
 use Rattle.std.specs.Prelude.{ℕ, filter, fold, nat_lt}
+use Rattle.world_rules.specs.Prelude.{Copy, Insert, Delete, SitePoint, SiteInsert, SiteDelete, EventValue, WhatValue, rate, ConfigValues}
 use Rattle.birth_board.specs.declared.placing_round.PlacingRound.{PlacingRound}
 use Rattle.birth_board.specs.Torus.{TorusNumbers}
 use Rattle.mutations.specs.declared.rate_name.RateName.{RateName}
-use Rattle.mutations.specs.declared.rate_name.RateName.TheVariants.{Copy, Insert, Delete, SitePoint, SiteInsert, SiteDelete}
 use Rattle.mutations.specs.Rates.{RateNumbers}
 use Rattle.organism.specs.SettingNumbers.{SettingNumbers}
-use Rattle.world_config.specs.Events.{EventValue, WhatValue, rate}
-use Rattle.world_config.specs.Values.{ConfigValues}
 
 -- the rates, one of them with another value
 abbrev pub with_rate : RateNumbers → RateName → ℕ → RateNumbers

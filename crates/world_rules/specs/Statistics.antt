@@ -2,21 +2,13 @@
 -- if three organisms live, two with one genome and one with another, there are two genotypes, and
 -- the first is dominant with a count of 2.
 use Rattle.std.specs.Prelude.{ℕ, zero, suc, List, length, map, Option, option_map}
-use Rattle.std.specs.List.{filter_map, count_by, sum_by}
-use Rattle.instruction_set.specs.declared.letter.Letter.{Letter}
+use Rattle.world_rules.specs.Prelude.{filter_map, count_by, sum_by, Letter, GenotypeCount, dominant_among, all_tasks, has_task, OrganismState, ConfigValues}
 use Rattle.instruction_set.specs.Letter.{same_letters}
-use Rattle.genome.specs.Genomes.{different_of}
-use Rattle.census.specs.Counts.{GenotypeCount}
-use Rattle.census.specs.Dominance.{dominant_among}
+use Rattle.genome.specs.Genome.{different_of}
 use Rattle.logic_tasks.specs.declared.task.Task.{Task}
-use Rattle.logic_tasks.specs.LogicTasks.{all_tasks}
-use Rattle.logic_tasks.specs.TaskSet.{has_task}
 use Rattle.log_lines.specs.declared.stats.Stats.{Stats}
-use Rattle.lineage_log.specs.Slots.{taken}
-use Rattle.organism.specs.OrganismState.{OrganismState}
-use Rattle.world_config.specs.Values.{ConfigValues}
-use Rattle.world_rules.specs.World.{Occupant, World, ids_of}
-use Rattle.world_rules.specs.Scene.{Scene}
+use Rattle.lineage_log.specs.Reader.{taken}
+use Rattle.world_rules.specs.World.{Occupant, World, ids_of, Scene}
 use Rattle.world_rules.specs.Update.{births_of, lives_after, next_scene}
 use Rattle.world_rules.specs.WorldRun.{world_after}
 

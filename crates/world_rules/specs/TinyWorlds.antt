@@ -1,18 +1,10 @@
 -- Worlds of one cell, for theorems by computation. For example, in `tiny (once (clear 0 0))` an
 -- event clears the only cell at the end of update 1. No public clause of the world cites this file.
 use Rattle.std.specs.Prelude.{ℕ, Bool, true, List, [], ◌∷◌, Some, None, replicate}
-use Rattle.instruction_set.specs.declared.letter.Letter.{Letter}
-use Rattle.instruction_set.specs.declared.letter.Letter.TheVariants.{NopA}
-use Rattle.log_lines.specs.Line.{Line, Count}
-use Rattle.logic_tasks.specs.TaskSet.{no_tasks}
+use Rattle.world_rules.specs.Prelude.{Letter, NopA, Line, Count, no_tasks, NewbornValue, OrganismState, EventValue, WhatValue, ConfigValues}
 use Rattle.mutations.specs.BirthRecord.{BirthRecord}
-use Rattle.organism.specs.Newborns.{NewbornValue}
-use Rattle.organism.specs.OrganismState.{OrganismState}
-use Rattle.world_config.specs.Events.{EventValue, WhatValue}
-use Rattle.world_config.specs.Values.{ConfigValues}
-use Rattle.world_rules.specs.World.{founder_link}
+use Rattle.world_rules.specs.World.{founder_link, Scene}
 use Rattle.world_rules.specs.Lives.{CellLife}
-use Rattle.world_rules.specs.Scene.{Scene}
 use Rattle.world_rules.specs.Update.{after_lives}
 
 -- a genome of eight letters

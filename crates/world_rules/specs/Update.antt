@@ -2,18 +2,11 @@
 -- births" and "Events"). For example, if an organism has borne a child and then died of age, first
 -- its cell is emptied, then the child is placed, perhaps there, and then the events happen.
 use Rattle.std.specs.Prelude.{ℕ, ◌+◌, ◌==◌, List, [], length, map, filter, fold, Option, None, Some, slice_index_or}
-use Rattle.std.specs.List.{range_with_len, flat_map, zip, enumerate_from}
-use Rattle.birth_board.specs.declared.placing.Placing.{Placing}
+use Rattle.world_rules.specs.Prelude.{range_with_len, flat_map, zip, enumerate_from, Placing, NewbornValue, OrganismState, new_organism, Link, EventValue, WhatValue, inject, clear, rate, ConfigValues}
 use Rattle.birth_board.specs.Placement.{placements_of}
-use Rattle.organism.specs.Newborns.{NewbornValue}
-use Rattle.organism.specs.OrganismState.{OrganismState, new_organism}
-use Rattle.lineage_log.specs.Links.{Link}
-use Rattle.world_config.specs.Events.{EventValue, WhatValue, inject, clear, rate}
-use Rattle.world_config.specs.Values.{ConfigValues}
-use Rattle.world_rules.specs.World.{Occupant, World, ids_of, founder_of, founder_link}
+use Rattle.world_rules.specs.World.{Occupant, World, ids_of, founder_of, founder_link, Scene, next_id, with_deaths, cells_from, with_newcomer}
 use Rattle.world_rules.specs.Settings.{torus_of, placing_round_at}
 use Rattle.world_rules.specs.Lives.{CellLife, no_life, lives_of}
-use Rattle.world_rules.specs.Scene.{Scene, next_id, with_deaths, cells_from, with_newcomer}
 
 -- the scene as all lives have ended, with the dead still in their cells
 abbrev pub after_lives : ℕ → List Link → List CellLife → Scene

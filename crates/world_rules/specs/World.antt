@@ -1,15 +1,11 @@
--- A world between two updates, and the world of a founder alone (docs/WORLD.md, "The founder").
--- Cells are numbered from 0, and None is an empty one. For example, the first world of 3 by 2 cells
--- whose founder cell is 4 has six cells, of which only cell 4 has an organism, with id 0.
-use Rattle.std.specs.Prelude.{ℕ, ◌+◌, ◌*◌, List, [], ◌∷◌, length, map, replicate, Option, None, Some, option_map, slice_index_or, slice_set}
-use Rattle.instruction_set.specs.declared.letter.Letter.{Letter}
+-- A world between two updates or within one, and the world of a founder alone (docs/WORLD.md, "The
+-- founder" and "The end of an update"). Cells are numbered from 0, and None is an empty one. For
+-- example, the first world of 3 by 2 cells whose founder cell is 4 has six cells, of which only
+-- cell 4 has an organism, with id 0; if a newborn comes into cell 4, then organism 0 is gone.
+use Rattle.std.specs.Prelude.{ℕ, ◌+◌, ◌*◌, List, [], ◌∷◌, length, map, replicate, Option, None, Some, option_map, slice_index_or, slice_set, ◌-◌, ◌++◌, fold}
+use Rattle.world_rules.specs.Prelude.{Letter, no_tasks, Place, draw, OrganismState, new_organism, Link, ConfigValues, range_with_len}
 use Rattle.logic_tasks.specs.Inputs.{inputs_of}
-use Rattle.logic_tasks.specs.TaskSet.{no_tasks}
-use Rattle.random_streams.specs.declared.purpose.Purpose.TheVariants.{Place}
-use Rattle.random_streams.specs.RandomStream.{draw}
-use Rattle.organism.specs.OrganismState.{OrganismState, new_organism}
-use Rattle.lineage_log.specs.Links.{Link}
-use Rattle.world_config.specs.Values.{ConfigValues}
+use Rattle.std.specs.Option.{option_to_list}
 
 -- an organism in a cell, with its id
 pub record Occupant : Type 0 where
@@ -68,4 +64,42 @@ first_world config = record {
   update = 0;
   cells = slice_set (empty_cells config) config.founder_cell (Some (first_occupant config));
   everyone = founder_link 0 0 config.founder_cell config.ancestor ∷ [];
+}
+
+-- the update, who stands in each cell, all organisms ever, by id, and the ids of the update's dead
+pub record Scene : Type 0 where
+  pub update : ℕ
+  pub cells : List (Option Occupant)
+  pub everyone : List Link
+  pub gone : List ℕ
+
+-- the next id
+abbrev pub next_id : Scene → ℕ
+next_id scene = length scene.everyone
+
+-- the id of who stands in a cell of the scene
+abbrev pub standing_at : Scene → ℕ → Option ℕ
+standing_at scene cell = id_at scene.cells cell
+
+-- who stands in the cell dies
+unfoldable pub with_death : Scene → ℕ → Scene
+with_death scene cell = record scene {
+  cells = slice_set scene.cells cell None;
+  gone = scene.gone ++ option_to_list (standing_at scene cell);
+}
+
+-- all that stand in these cells die
+abbrev pub with_deaths : Scene → List ℕ → Scene
+with_deaths scene cells = fold with_death scene cells
+
+-- the cells from the first to the last
+abbrev pub cells_from : ℕ → ℕ → List ℕ
+cells_from first last = range_with_len first (last + 1 - first)
+
+-- somebody new, with the id of this link, stands in its cell, and who stood there dies
+unfoldable pub with_newcomer : Scene → Link → OrganismState → Scene
+with_newcomer scene link organism = record scene {
+  cells = slice_set scene.cells link.cell (Some (record { id = link.id; organism = organism }));
+  everyone = scene.everyone ++ link ∷ [];
+  gone = scene.gone ++ option_to_list (standing_at scene link.cell);
 }

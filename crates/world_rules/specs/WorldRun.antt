@@ -1,9 +1,7 @@
 -- The world after so many updates, and who lives in it (docs/WORLD.md, "The log of a run"). For
 -- example, the world after 2 updates is next_world of next_world of first_world.
 use Rattle.std.specs.Prelude.{ℕ, zero, suc, List, option_map}
-use Rattle.std.specs.List.{filter_map, enumerate_from}
-use Rattle.lineage_log.specs.Replay.{Resident}
-use Rattle.world_config.specs.Values.{ConfigValues}
+use Rattle.world_rules.specs.Prelude.{filter_map, enumerate_from, Resident, ConfigValues}
 use Rattle.world_rules.specs.World.{Occupant, World, first_world}
 use Rattle.world_rules.specs.Update.{next_world}
 

@@ -1,7 +1,6 @@
 // What holds of the worlds of every run (docs/WORLD.md, "Lines of descent").
 ghost use Rattle.std.specs.Prelude.{◌≡◌, ℕ, List, [], ◌∷◌, ◌++◌, Some, slice_get};
-ghost use Rattle.lineage_log.specs.Links.{Link};
-ghost use Rattle.world_config.specs.Values.{ConfigValues};
+ghost use Rattle.world_rules.specs.Prelude.{Link, ConfigValues};
 ghost use Rattle.world_rules.specs.WorldRun.{world_after};
 ghost use Rattle.world_rules.specs.Descent.{descent_line_of, line_of_parent, descent_lines_of, AreNumbered, IsNumberedWorld};
 

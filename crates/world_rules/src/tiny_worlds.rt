@@ -1,12 +1,7 @@
 // What the definitions give for tiny worlds, worked out by hand (docs/WORLD.md, "The log of a
 // run").
 ghost use Rattle.std.specs.Prelude.{◌≡◌, [], ◌∷◌, Some, None, true, false, codes};
-ghost use Rattle.instruction_set.specs.declared.letter.Letter.TheVariants.{NopB};
-ghost use Rattle.mutations.specs.declared.rate_name.RateName.TheVariants.{Copy};
-ghost use Rattle.log_lines.specs.Line.{Death, Birth, Injected, Cleared, Rate};
-ghost use Rattle.organism.specs.OrganismState.{OrganismState};
-ghost use Rattle.world_config.specs.Events.{inject, clear, rate};
-ghost use Rattle.world_config.specs.Values.{ConfigValues};
+ghost use Rattle.world_rules.specs.Prelude.{NopB, Copy, Death, Birth, Injected, Cleared, Rate, OrganismState, inject, clear, rate, ConfigValues};
 ghost use Rattle.world_rules.specs.World.{first_world};
 ghost use Rattle.world_rules.specs.Settings.{rates_at};
 ghost use Rattle.world_rules.specs.Lives.{slices_at};
@@ -50,7 +45,7 @@ pub fn a_run_of_no_updates_has_two_lines()
     ensures { log_text (tiny []) 0 ≡ codes "L 2 1 1 0 aaaaaaaa\nE 0\n" }
 {}
 
-#[tactic(auto, unfolding(crate::specs::Picture::picture_of, crate::specs::Picture::picture_text, crate::specs::Statistics::stats_of, crate::specs::Statistics::stats_in, crate::specs::Statistics::dominant_of, census::specs::Dominance::dominant_among, crate::specs::WorldRun::world_after, crate::specs::World::first_world, crate::specs::World::founder_of, organism::specs::OrganismState::new_organism))]
+#[tactic(auto, unfolding(crate::specs::Picture::picture_of, crate::specs::Picture::picture_text, crate::specs::Statistics::stats_of, crate::specs::Statistics::stats_in, crate::specs::Statistics::dominant_of, census::specs::Counts::dominant_among, crate::specs::WorldRun::world_after, crate::specs::World::first_world, crate::specs::World::founder_of, organism::specs::OrganismState::new_organism))]
 pub fn the_first_picture_shows_the_founder()
     ensures { picture_text (picture_of (tiny []) 0) ≡ codes "W 0 1 1 8 1 aaaaaaaa\n" }
 {}

@@ -1,17 +1,8 @@
 -- Those that died in an update leave the tree.
 use Rattle.std.proofs.Common.{◌≡◌, ⊎_elim, ◌∙◌, sym, ap, true≢false, ℕ, ◌+◌, ◌<◌, ◌≤◌, length, get_or, Some, eq-eqb, arith}
 use Rattle.std.specs.Prelude.{Contains, nat_eq, slice_get}
-use Rattle.std.proofs.lemmas.Bool.{cases_lt}
+use Rattle.world_tree.proofs.Prelude.{cases_lt, get_or_from_slice_get, slice_get_within, kept_of, TreeValue, tree_with_death, without_id, Scene, World, world_of, HasGone, IsStanding, HasBuried, IsTreeOf}
 use Rattle.std.proofs.lemmas.Map.Keys.{apart_from_distinct}
-use Rattle.std.proofs.lemmas.Option.{get_or_from_slice_get, slice_get_within}
-use Rattle.lineage_log.specs.Ancestry.{kept_of}
-use Rattle.lineage_log.specs.Trees.{TreeValue, tree_with_death, without_id}
-use Rattle.world_rules.specs.Scene.{Scene}
-use Rattle.world_rules.specs.Update.{world_of}
-use Rattle.world_rules.specs.World.{World}
-use Rattle.world_laws.specs.Turnover.{HasGone, IsStanding}
-use Rattle.world_tree.specs.Growing.{HasBuried}
-use Rattle.world_tree.specs.WorldTrees.{IsTreeOf}
 use Rattle.world_tree.proofs.NumberLemmas.{older_of, without_from, without_to}
 use Rattle.world_tree.proofs.EnterLemmas.{IsUpdate, KeepingLaws}
 

@@ -1,23 +1,7 @@
 -- Those that come in an update enter the tree.
 use Rattle.std.proofs.Common.{◌≡◌, ◌↔◌, inl, inr, ⊎_elim, ◌∙◌, sym, ap, subst, ℕ, ◌+◌, ◌<◌, ◌≤◌, List, [], ◌∷◌, ◌++◌, length, take, drop, get_or, Some, arith, add-one}
 use Rattle.std.specs.Prelude.{All, Contains, is_some, slice_get}
-use Rattle.std.proofs.lemmas.Bool.{cases_lt}
-use Rattle.std.proofs.lemmas.List.{length-take, take-append-drop, take_all, take_more}
-use Rattle.std.proofs.lemmas.List.Elements.{All-filter, Contains-append_left, Contains-get_or, Contains-push, Contains-push_cases}
-use Rattle.std.proofs.lemmas.Option.{get_or_from_slice_get, slice_get-get_or, slice_get_within}
-use Rattle.lineage_log.specs.Links.{Link}
-use Rattle.lineage_log.specs.Ancestry.{AreOlder, is_kept, kept_of, line_of_descent, link_of}
-use Rattle.lineage_log.specs.Trees.{TreeValue, CanCome, tree_with_newcomer}
-use Rattle.world_rules.specs.Descent.{AreNumbered, IsNumberedWorld}
-use Rattle.world_config.specs.Values.{ConfigValues}
-use Rattle.world_rules.specs.Scene.{Scene}
-use Rattle.world_rules.specs.Update.{next_world, world_of}
-use Rattle.world_rules.specs.WorldRun.{world_after}
-use Rattle.world_rules.specs.World.{World}
-use Rattle.world_laws.specs.Turnover.{HasBeen, IsStanding, IsTurnover}
-use Rattle.world_tree.specs.Growing.{HasBuried}
-use Rattle.world_laws.proofs.ListLemmas.{get_left}
-use Rattle.world_tree.specs.WorldTrees.{scene_after}
+use Rattle.world_tree.proofs.Prelude.{cases_lt, length-take, take-append-drop, take_all, take_more, All-filter, Contains-append_left, Contains-get_or, Contains-push, Contains-push_cases, get_or_from_slice_get, slice_get-get_or, slice_get_within, Link, AreOlder, is_kept, kept_of, line_of_descent, link_of, TreeValue, CanCome, tree_with_newcomer, AreNumbered, IsNumberedWorld, ConfigValues, Scene, World, next_world, world_of, world_after, HasBeen, IsStanding, IsTurnover, HasBuried, scene_after, get_left}
 use Rattle.world_tree.proofs.NumberLemmas.{link_at, numbered_front, older_of, standing_low}
 
 -- what is kept goes on, as the law of that name says it

@@ -1,3 +1,4 @@
+pub mod Prelude
 mod NumberLemmas
 mod EnterLemmas
 mod BuryLemmas

@@ -1,19 +1,9 @@
 -- Organisms that stand in a list at their ids.
 use Rattle.std.proofs.Common.{◌≡◌, ◌≢◌, ◌∙◌, sym, ap, subst, ℕ, zero, suc, ◌<◌, Bool, true, false, cond, eqb, List, [], ◌∷◌, length, take, drop, get_or, Some, None, eqb-true, not, arith, inl, inr, eq-eqb, ne_eqb}
 use Rattle.std.specs.Prelude.{Contains, is_some, slice_get}
-use Rattle.std.proofs.lemmas.Bool.{cases_Bool}
-use Rattle.std.proofs.lemmas.List.{take-append-drop}
-use Rattle.std.proofs.lemmas.List.Elements.{All-filter, Contains-get_or, filter_passes}
-use Rattle.std.proofs.lemmas.Option.{get_or_from_slice_get, option_and_then_some, slice_get_within}
-use Rattle.lineage_log.specs.Links.{Link}
-use Rattle.lineage_log.specs.Ancestry.{AreOlder, link_of}
-use Rattle.lineage_log.specs.Trees.{without_id}
+use Rattle.world_tree.proofs.Prelude.{cases_Bool, take-append-drop, All-filter, Contains-get_or, filter_passes, get_or_from_slice_get, option_and_then_some, slice_get_within, Link, AreOlder, link_of, without_id, AreNumbered, IsBelow, IsNumberedWorld, World, id_of, IsStanding, get_more}
 use Rattle.lineage_log.proofs.AncestorLemmas.{cases_Option}
 use Rattle.lineage_log.proofs.KeptLemmas.{found_at}
-use Rattle.world_rules.specs.Descent.{AreNumbered, IsBelow, IsNumberedWorld}
-use Rattle.world_rules.specs.World.{World, id_of}
-use Rattle.world_laws.specs.Turnover.{IsStanding}
-use Rattle.world_laws.proofs.ListLemmas.{get_more}
 
 -- a front is numbered
 pub numbered_front : (k : ℕ) (links : List Link) → AreNumbered links → AreNumbered (take k links)
@@ -95,6 +85,7 @@ pub without_from : (id x : ℕ) (ids : List ℕ) → Contains (without_id id ids
 without_from id x ids is =
     let other : ℕ → Bool = λ (y : ℕ). not (eqb y id) in
     let stays = rw is.2 at (filter_passes other ids is.0 x is.1) in (
-      subst (Contains ids) is.2 (All-filter other (Contains ids) ids (Contains-get_or ids) is.0 x is.1),
+      subst (Contains ids) is.2 (All-filter other (Contains ids) ids (Contains-get_or ids)
+          is.0 x is.1),
       λ same. let e = eq-eqb x id same in absurd cc,
     )

@@ -1,20 +1,9 @@
 -- What the tree of a world shows of it.
 use Rattle.std.proofs.Common.{◌≡◌, ◌↔◌, ◌∙◌, refl, sym, ap, subst, ℕ, zero, suc, ◌+◌, ◌*◌, ◌<◌, List, [], ◌∷◌, ◌++◌, length, get_or, Option, Some, None, Result, Ok, Err, arith}
 use Rattle.std.specs.Prelude.{Contains, IfOk, filter_map, slice_get, slice_set}
+use Rattle.world_tree.proofs.Prelude.{length-replicate, slice_get-get_or, Link, AreOlder, kept_of, link_of, TreeValue, founded_by, ConfigValues, AreNumbered, IsBelow, IsNumberedWorld, descent_line_of, descent_lines_of, line_of_parent, Occupant, World, empty_cells, first_occupant, first_world, founder_link, id_of, world_after, IsStanding, IsTreeOf, living_and_ancestors, get_written}
 use Rattle.std.specs.Option.{option_map_or}
-use Rattle.std.proofs.lemmas.List.{length-replicate}
-use Rattle.std.proofs.lemmas.Option.{slice_get-get_or}
-use Rattle.lineage_log.specs.Links.{Link}
-use Rattle.lineage_log.specs.Ancestry.{AreOlder, kept_of, link_of}
 use Rattle.lineage_log.specs.Ancestry as tree
-use Rattle.lineage_log.specs.Trees.{TreeValue, founded_by}
-use Rattle.world_config.specs.Values.{ConfigValues}
-use Rattle.world_rules.specs.Descent.{AreNumbered, IsBelow, IsNumberedWorld, descent_line_of, descent_lines_of, line_of_parent}
-use Rattle.world_rules.specs.World.{Occupant, World, empty_cells, first_occupant, first_world, founder_link, id_of}
-use Rattle.world_rules.specs.WorldRun.{world_after}
-use Rattle.world_laws.specs.Turnover.{IsStanding}
-use Rattle.world_tree.specs.WorldTrees.{IsTreeOf, living_and_ancestors}
-use Rattle.world_laws.proofs.ListLemmas.{get_written}
 use Rattle.world_laws.proofs.WholeLogs.{only_founder}
 use Rattle.world_tree.proofs.NumberLemmas.{contains_more, link_at, older_of, standing_low}
 use Rattle.world_tree.proofs.EnterLemmas.{KeepingLaws}
@@ -42,7 +31,12 @@ tree_found config tree within is = subst (IsTreeOf (first_world config)) (sym is
       config.founder_cell,
       first_occupant config,
       get_written (empty_cells config) config.founder_cell (Some (first_occupant config))
-          (omega (arith, within, length-replicate {A = Option Occupant} (config.width * config.height) None)),
+          (omega (
+            arith,
+            within,
+            length-replicate {A = Option Occupant}
+                (config.width * config.height) None,
+          )),
       e,
     )
     by id (suc k) low e = absurd (omega (arith, low))

@@ -1,14 +1,23 @@
 -- The tree of a world (docs/WORLD.md, "Lines of descent").
-use Rattle.std.specs.Prelude.{◌≡◌, ℕ, Contains, List, drop, filter_map, length}
-use Rattle.lineage_log.specs.Links.{Link}
-use Rattle.lineage_log.specs.Ancestry.{kept_of}
-use Rattle.lineage_log.specs.Trees.{TreeValue}
+use Rattle.std.specs.Prelude.{◌≡◌, ℕ, ◌<◌, Contains, Some, length, slice_get, List, drop, filter_map}
+use Rattle.lineage_log.specs.Ancestry.{kept_of, TreeValue, Link}
+use Rattle.world_rules.specs.World.{Scene, World, id_of}
+use Rattle.world_laws.specs.Turnover.{HasBeen, IsStanding}
 use Rattle.world_config.specs.Values.{ConfigValues}
-use Rattle.world_rules.specs.Scene.{Scene}
 use Rattle.world_rules.specs.Update.{next_scene}
-use Rattle.world_rules.specs.World.{World, id_of}
 use Rattle.world_rules.specs.WorldRun.{world_after}
-use Rattle.world_laws.specs.Turnover.{IsStanding}
+
+-- nobody with this id is among the first so many that died
+abbrev pub IsLeft : Scene → ℕ → ℕ → Type 0
+IsLeft scene count id = (place : ℕ) → place < count → slice_get scene.gone place ≡ Some id → ⊥
+
+-- all that came have entered, and so many of those that died are buried
+pub record HasBuried (w : World) (scene : Scene) (count : ℕ) (tree : TreeValue) : Type 0 where
+  pub links : tree.links ≡ kept_of scene.everyone tree.living
+  pub living : (id : ℕ) → Contains tree.living id
+      → HasBeen w.cells (length w.everyone) (length scene.everyone) id × IsLeft scene count id
+  pub each : (id : ℕ) → HasBeen w.cells (length w.everyone) (length scene.everyone) id
+      → IsLeft scene count id → Contains tree.living id
 
 -- the living stand in the cells, and the links are those of the living and their ancestors
 pub record IsTreeOf (w : World) (tree : TreeValue) : Type 0 where

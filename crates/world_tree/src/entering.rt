@@ -2,8 +2,7 @@
 ghost use Rattle.std.specs.Prelude.{◌≡◌, OnOk};
 ghost use Rattle.world_config.specs.Shown.{values_of};
 ghost use Rattle.world_rules.specs.WorldRun.{world_after};
-ghost use Rattle.world_tree.specs.Growing.{HasBuried};
-ghost use Rattle.world_tree.specs.WorldTrees.{IsTreeOf, newcomers_of, scene_after};
+ghost use Rattle.world_tree.specs.WorldTrees.{HasBuried, IsTreeOf, newcomers_of, scene_after};
 
 use avida_port::Memory;
 use lineage_log::laws::keeping_goes_on;

@@ -25,7 +25,7 @@ pub struct WorldTree {
 }
 
 impl Model for WorldTree {
-    ghost use Rattle.lineage_log.specs.Trees.{TreeValue};
+    ghost use Rattle.lineage_log.specs.Ancestry.{TreeValue};
 
     ghost Value = { TreeValue };
 

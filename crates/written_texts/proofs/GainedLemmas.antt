@@ -1,8 +1,7 @@
 -- How what a sink gained adds up.
 use Rattle.std.proofs.Common.{◌≡◌, ◌≤◌, Option, ℕ, List, [], ◌++◌, None, Some, refl, sym, ap, ◌∙◌, append_assoc, append-nil, arith}
 use Rattle.std.specs.Io.KnownBytes.{append_known}
-use Rattle.avida_port.specs.Faults.{Rose}
-use Rattle.avida_port.specs.Ports.{SinkState, GainedPrefix, IsPrefixOf}
+use Rattle.avida_port.specs.Ports.{Rose, SinkState, GainedPrefix, IsPrefixOf}
 use Rattle.written_texts.specs.SinkChanges.{Change, GainedFront, Stays}
 
 -- no text leaves what is held

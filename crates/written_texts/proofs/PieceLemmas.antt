@@ -5,7 +5,7 @@ use Rattle.std.proofs.lemmas.List.{map-append}
 use Rattle.avida_port.specs.declared.sink.SinkStop.{SinkStop}
 use Rattle.avida_port.specs.Ports.{SinkState, Puts}
 use Rattle.written_texts.proofs.PutLemmas.{puts_nothing, puts_then, puts_short}
-use Rattle.written_texts.specs.Pieces.{Writes}
+use Rattle.written_texts.specs.WrittenText.{Writes}
 
 -- a text that is only held
 pub writes_held : (a : SinkState) (old new text : List ℕ) → new ≡ old ++ text

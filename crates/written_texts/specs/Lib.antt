@@ -1,4 +1,3 @@
 pub mod SinkChanges
 pub mod WrittenText
-pub mod Pieces
 pub mod NumberText

@@ -1,7 +1,6 @@
 -- What a call changes of a value, and of a sink (docs/ARCHITECTURE.md, "Sources and sinks").
 use Rattle.std.specs.Prelude.{◌≡◌, ℕ, List}
-use Rattle.avida_port.specs.Faults.{Rose}
-use Rattle.avida_port.specs.Ports.{Gained, GainedPrefix, SinkState}
+use Rattle.avida_port.specs.Ports.{Rose, Gained, GainedPrefix, SinkState}
 
 -- what a call finds and what it leaves
 pub record Change (A : Type 0) : Type 0 where

@@ -1,11 +1,18 @@
--- A text that is written to a sink, or not to its end (docs/ARCHITECTURE.md, "Sources and sinks").
-use Rattle.std.specs.Prelude.{◌≡◌, ℕ, List, Result, OnOk, OnErr, IfErr}
-use Rattle.avida_port.specs.Faults.{Rose}
-use Rattle.avida_port.specs.Ports.{CountsClimb, Gained, GainedPrefix, SinkState}
+-- A text that is written to a sink, or not to its end, also in held pieces (docs/ARCHITECTURE.md,
+-- "Sources and sinks").
+use Rattle.std.specs.Prelude.{◌≡◌, ◌++◌, ℕ, List, Result, OnOk, OnErr, IfErr}
+use Rattle.avida_port.specs.Ports.{SinkState, Puts, CountsClimb, Gained, GainedPrefix, Rose}
 use Rattle.avida_port.specs.declared.sink.SinkStop.{SinkStop}
 use Rattle.avida_port.specs.declared.sink.SinkStop.TheVariants as sink
 use Rattle.written_texts.specs.declared.stop.WriteStop.{WriteStop}
 use Rattle.written_texts.specs.declared.stop.WriteStop.TheVariants.{Fault, Memory}
+
+-- a text goes behind what is held: all is put but what is held now, or a prefix is put
+pub record Writes (before after : SinkState) (old new text : List ℕ)
+    (result : Result (Unit {0}) SinkStop) : Type 0 where
+  pub ok : OnOk result
+      ((part : List ℕ) × (part ++ new ≡ old ++ text) × Puts before after part result)
+  pub err : OnErr result (Puts before after (old ++ text) result)
 
 -- why a text isn't written whole whose put stopped so
 abbrev pub write_stop_of : SinkStop → WriteStop

@@ -2,7 +2,7 @@
 ghost use Rattle.std.specs.Prelude.{◌≡◌, ◌+◌, ◌≤◌, ◌∷◌, [], map, OnOk};
 ghost use Rattle.arrayvec.specs.ArrayVec.{array_vec_len};
 ghost use Rattle.instruction_set.specs.Letter.{byte_of};
-ghost use Rattle.written_texts.specs.Pieces.{Writes};
+ghost use Rattle.written_texts.specs.WrittenText.{Writes};
 
 use arrayvec::ArrayVec;
 use avida_port::{Sink, SinkStop};

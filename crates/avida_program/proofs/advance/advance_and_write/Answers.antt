@@ -1,10 +1,5 @@
 use Rattle.std.proofs.Common.{subst}
-use Rattle.std.proofs.lemmas.Result.{err_from_is_err_and}
-use Rattle.saved_worlds.specs.SavedState.{SavedState}
-use Rattle.saved_worlds.specs.SavedWorldText.{saved_text}
-use Rattle.written_texts.specs.WrittenText.{WritesAll}
-use Rattle.written_texts.proofs.WriteLemmas.{nothing_written}
-use Rattle.avida_program.specs.SaveText.{advanced_text}
+use Rattle.avida_program.proofs.Prelude.{err_from_is_err_and, SavedState, saved_text, WritesAll, nothing_written, advanced_text}
 use Rattle.avida_program.proofs.advance.advance_and_write.Goals as goal
 
 pub returns-in_err-after : goal.returns-in_err-after

@@ -1,5 +1,5 @@
 use Rattle.std.proofs.Common.{◌∙◌, Err, ap, refl}
-use Rattle.written_texts.proofs.WriteLemmas.{never_fails}
+use Rattle.avida_program.proofs.Prelude.{never_fails}
 use Rattle.avida_program.proofs.advance.pass_updates.Goals as goal
 
 pub unreachable-requires : goal.unreachable-requires

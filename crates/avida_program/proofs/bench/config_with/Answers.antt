@@ -1,4 +1,4 @@
-use Rattle.world_config.specs.Shown.{values_of}
+use Rattle.avida_program.proofs.Prelude.{values_of}
 use Rattle.avida_program.proofs.BenchLemmas.{bench_values, events_fit}
 use Rattle.avida_program.proofs.bench.config_with.Goals as goal
 

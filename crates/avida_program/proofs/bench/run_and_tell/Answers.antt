@@ -1,7 +1,5 @@
 use Rattle.std.proofs.Common.{◌≡◌, ◌∙◌, ap, arith, subst, sym}
-use Rattle.world_config.specs.Values.{ConfigValues}
-use Rattle.logged_run.specs.RunSums.{IsEndOf}
-use Rattle.avida_program.specs.BenchText.{sums_text}
+use Rattle.avida_program.proofs.Prelude.{ConfigValues, IsEndOf, sums_text}
 use Rattle.avida_program.proofs.bench.run_and_tell.Goals as goal
 
 pub tell-requires-clause-end : goal.tell-requires-clause-end

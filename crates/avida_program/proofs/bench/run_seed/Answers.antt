@@ -1,7 +1,6 @@
 use Rattle.std.proofs.Common.{subst}
 use Rattle.std.specs.Prelude.{IfOk}
-use Rattle.world_config.specs.Values.{ConfigValues}
-use Rattle.logged_run.specs.RunText.{IsFinalWorld}
+use Rattle.avida_program.proofs.Prelude.{ConfigValues, IsFinalWorld}
 use Rattle.avida_program.proofs.bench.run_seed.Goals as goal
 
 pub returns-clause-world : goal.returns-clause-world

@@ -1,6 +1,6 @@
 -- The bytes so far are pushed.
 use Rattle.std.proofs.Common.{◌≡◌, ◌+◌, ◌++◌, length, map, take}
-use Rattle.avida_program.specs.Status.{shown_byte}
+use Rattle.avida_program.proofs.Prelude.{shown_byte}
 use Rattle.avida_program.proofs.fault_line.push_shown.Given as goal
 
 abbrev pub invariant-loop-byte : goal.invariant-loop-byte

@@ -1,7 +1,6 @@
 use Rattle.std.proofs.Common.{rules, ◌≡◌, ◌∙◌, ◌+◌, ◌<◌, Err, ap, arith}
 use Rattle.std.specs.Prelude.{nat_lt}
-use Rattle.std.proofs.lemmas.Bool.{cond-true, lt-ltb}
-use Rattle.avida_program.specs.declared.refusal.Refusal.TheVariants.{Updates}
+use Rattle.avida_program.proofs.Prelude.{cond-true, lt-ltb, Updates}
 use Rattle.avida_program.proofs.input.read_state_for.Goals as goal
 
 pub returns-else-updates-from-clause-err : goal.returns-else-updates-from-clause-err

@@ -1,7 +1,4 @@
-use Rattle.lineage_log.specs.LogGrammar.{log_of}
-use Rattle.lineage_log.specs.ReadsLog.{ReadsLog}
-use Rattle.saved_worlds.specs.ReadsSaved.{ReadsSaved}
-use Rattle.saved_worlds.specs.SavedGrammar.{saved_of}
+use Rattle.avida_program.proofs.Prelude.{log_of, ReadsLog, ReadsSaved, saved_of}
 use Rattle.avida_program.proofs.ReadInputs.{made_exactly}
 use Rattle.avida_program.proofs.laws.inputs_are_read_one_way.Goals as goal
 

@@ -1,4 +1,4 @@
-use Rattle.world_config.specs.Shown.{values_of}
+use Rattle.avida_program.proofs.Prelude.{values_of}
 use Rattle.avida_program.proofs.AdvanceLemmas.{run_advances}
 use Rattle.avida_program.proofs.laws.saved_runs_advance.Goals as goal
 

@@ -1,4 +1,4 @@
-use Rattle.world_config.specs.Shown.{values_of}
+use Rattle.avida_program.proofs.Prelude.{values_of}
 use Rattle.avida_program.proofs.SavedLemmas.{run_goes_on}
 use Rattle.avida_program.proofs.laws.saved_runs_go_on.Goals as goal
 

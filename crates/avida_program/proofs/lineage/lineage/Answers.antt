@@ -1,6 +1,5 @@
 use Rattle.std.proofs.Common.{refl}
-use Rattle.std.proofs.lemmas.Result.{err_from_is_err_and}
-use Rattle.world_config.specs.Shown.{values_of}
+use Rattle.avida_program.proofs.Prelude.{err_from_is_err_and, values_of}
 use Rattle.avida_program.proofs.ReadEnds.{not_read, read_and_wrote}
 use Rattle.avida_program.proofs.RunEnds.{descended}
 use Rattle.avida_program.proofs.lineage.lineage.Goals as goal

@@ -1,13 +1,6 @@
 use Rattle.std.proofs.Common.{◌≡◌, ◌∙◌, ap, sym, ℕ}
-use Rattle.std.proofs.lemmas.Result.{err_from_is_err_and}
-use Rattle.world_config.specs.Shown.{values_of}
-use Rattle.world_config.specs.Values.{ConfigValues}
-use Rattle.world_core.specs.WorldValue.{WorldValue, world_in}
+use Rattle.avida_program.proofs.Prelude.{err_from_is_err_and, values_of, ConfigValues, WorldValue, world_in, world_after, nothing_written, stopped_same, writes_same, IsFinalWorld, path_lines, path_text}
 use Rattle.world_rules.specs.Descent.{line_in}
-use Rattle.world_rules.specs.WorldRun.{world_after}
-use Rattle.written_texts.proofs.WriteLemmas.{nothing_written, stopped_same, writes_same}
-use Rattle.logged_run.specs.RunText.{IsFinalWorld}
-use Rattle.avida_program.specs.PathText.{path_lines, path_text}
 use Rattle.avida_program.proofs.lineage.run_and_write.Goals as goal
 
 -- the line of descent in the last world is that of the configuration

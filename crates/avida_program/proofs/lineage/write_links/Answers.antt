@@ -1,6 +1,5 @@
 use Rattle.std.proofs.Common.{◌≡◌, ◌+◌, ◌++◌, ◌∙◌, Err, ap, length, arith}
-use Rattle.std.proofs.lemmas.Result.{err_from_is_err_and}
-use Rattle.avida_program.specs.PathText.{path_line}
+use Rattle.avida_program.proofs.Prelude.{err_from_is_err_and, path_line}
 use Rattle.avida_program.proofs.ListTexts.{item_stopped, item_written, items_wanting, items_whole}
 use Rattle.avida_program.proofs.lineage.write_links.Goals as goal
 

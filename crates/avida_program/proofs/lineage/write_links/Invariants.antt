@@ -1,8 +1,7 @@
 -- The lines so far are written.
 use Rattle.std.proofs.Common.{[], take, Ok}
 use Rattle.std.specs.Prelude.{flat_map}
-use Rattle.avida_program.specs.PathText.{path_line}
-use Rattle.written_texts.specs.Pieces.{Writes}
+use Rattle.avida_program.proofs.Prelude.{path_line, Writes}
 use Rattle.avida_program.proofs.lineage.write_links.Given as goal
 
 abbrev pub invariant-loop-link : goal.invariant-loop-link

@@ -1,8 +1,7 @@
 -- The lines so far are written.
 use Rattle.std.proofs.Common.{take, Ok}
 use Rattle.std.specs.Prelude.{flat_map}
-use Rattle.landscape.specs.LandscapeText.{entry_line}
-use Rattle.written_texts.specs.Pieces.{Writes}
+use Rattle.avida_program.proofs.Prelude.{entry_line, Writes}
 use Rattle.avida_program.proofs.neighbours.write_entries.Given as goal
 
 abbrev pub invariant-loop-entry : goal.invariant-loop-entry

@@ -1,13 +1,6 @@
 use Rattle.std.proofs.Common.{◌≡◌, ℕ, List, [], None, Some, Result, sym, subst, append-nil}
+use Rattle.avida_program.proofs.Prelude.{err_from_is_err_and, SinkState, SinkStop, Entry, Trial, entry_line, neighbour_line, Writes, writes_held, writes_short, writes_then}
 use Rattle.std.specs.Option.{option_map_or}
-use Rattle.std.proofs.lemmas.Result.{err_from_is_err_and}
-use Rattle.avida_port.specs.Ports.{SinkState}
-use Rattle.avida_port.specs.declared.sink.SinkStop.{SinkStop}
-use Rattle.landscape.specs.declared.entry.Entry.{Entry}
-use Rattle.landscape.specs.declared.first_divide.Trial.{Trial}
-use Rattle.landscape.specs.LandscapeText.{entry_line, neighbour_line}
-use Rattle.written_texts.specs.Pieces.{Writes}
-use Rattle.written_texts.proofs.PieceLemmas.{writes_held, writes_short, writes_then}
 use Rattle.avida_program.proofs.neighbours.write_entry.Goals as goal
 
 -- the line of a trial is that of the entry which has it

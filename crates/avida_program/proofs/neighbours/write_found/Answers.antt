@@ -1,12 +1,7 @@
 use Rattle.std.proofs.Common.{◌≡◌, ◌∙◌, ◌++◌, List, Option, ap, subst}
 use Rattle.std.specs.Prelude.{flat_map}
-use Rattle.landscape.specs.declared.entry.Entry.{Entry}
-use Rattle.landscape.specs.declared.first_divide.Trial.{Trial}
+use Rattle.avida_program.proofs.Prelude.{Entry, Trial, Landscape, base_line, entry_line, survey_text, totals_line, totals_of, WritesAll}
 use Rattle.landscape.specs.declared.totals.Totals.{Totals}
-use Rattle.landscape.specs.Landscape.{Landscape}
-use Rattle.landscape.specs.LandscapeText.{base_line, entry_line, survey_text, totals_line}
-use Rattle.landscape.specs.Totals.{totals_of}
-use Rattle.written_texts.specs.WrittenText.{WritesAll}
 use Rattle.avida_program.proofs.neighbours.write_found.Goals as goal
 
 -- the lines of a survey's parts are its text

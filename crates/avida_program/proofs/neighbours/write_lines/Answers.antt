@@ -1,8 +1,6 @@
 use Rattle.std.proofs.Common.{◌++◌}
 use Rattle.std.specs.Prelude.{flat_map}
-use Rattle.std.proofs.lemmas.Result.{err_from_is_err_and}
-use Rattle.landscape.specs.LandscapeText.{base_line, entry_line, totals_line}
-use Rattle.written_texts.proofs.PieceLemmas.{writes_held, writes_short, writes_then}
+use Rattle.avida_program.proofs.Prelude.{err_from_is_err_and, base_line, entry_line, totals_line, writes_held, writes_short, writes_then}
 use Rattle.avida_program.proofs.neighbours.write_lines.Goals as goal
 
 pub returns-in_err-make_room : goal.returns-in_err-make_room

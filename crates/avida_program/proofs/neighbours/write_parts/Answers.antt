@@ -1,7 +1,6 @@
 use Rattle.std.proofs.Common.{[], ◌++◌, append-nil}
 use Rattle.std.specs.Prelude.{flat_map}
-use Rattle.std.proofs.lemmas.Result.{err_from_is_err_and}
-use Rattle.landscape.specs.LandscapeText.{base_line, entry_line, totals_line}
+use Rattle.avida_program.proofs.Prelude.{err_from_is_err_and, base_line, entry_line, totals_line}
 use Rattle.avida_program.proofs.TextEnds.{stopped_within}
 use Rattle.avida_program.proofs.neighbours.write_parts.Goals as goal
 

@@ -1,6 +1,5 @@
 use Rattle.std.proofs.Common.{refl}
-use Rattle.std.proofs.lemmas.Result.{err_from_is_err_and}
-use Rattle.written_texts.proofs.WriteLemmas.{put_ended}
+use Rattle.avida_program.proofs.Prelude.{err_from_is_err_and, put_ended}
 use Rattle.avida_program.proofs.TextEnds.{text_put}
 use Rattle.avida_program.proofs.puts.put_text.Goals as goal
 

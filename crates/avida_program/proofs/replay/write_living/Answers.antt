@@ -1,8 +1,6 @@
 use Rattle.std.proofs.Common.{◌∙◌, ap, ◌++◌, Err, [], ◌∷◌, map, codes, decimal}
-use Rattle.std.proofs.lemmas.Result.{err_from_is_err_and}
-use Rattle.instruction_set.specs.Letter.{byte_of}
+use Rattle.avida_program.proofs.Prelude.{err_from_is_err_and, byte_of, writes_held, writes_short, writes_then}
 use Rattle.lineage_log.specs.Replay.{Resident}
-use Rattle.written_texts.proofs.PieceLemmas.{writes_held, writes_short, writes_then}
 use Rattle.avida_program.proofs.replay.write_living.Goals as goal
 
 pub returns-in_err-write_letters : goal.returns-in_err-write_letters

@@ -1,6 +1,5 @@
 use Rattle.std.proofs.Common.{◌≡◌, ◌+◌, Err, length, refl, arith}
-use Rattle.std.proofs.lemmas.Result.{err_from_is_err_and}
-use Rattle.avida_program.specs.ReplayText.{resident_line}
+use Rattle.avida_program.proofs.Prelude.{err_from_is_err_and, resident_line}
 use Rattle.avida_program.proofs.ListTexts.{item_stopped, item_written, items_whole}
 use Rattle.avida_program.proofs.replay.write_livings.Goals as goal
 

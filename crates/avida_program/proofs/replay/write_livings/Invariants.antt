@@ -1,8 +1,7 @@
 -- The lines so far are written.
 use Rattle.std.proofs.Common.{[], take, Ok}
 use Rattle.std.specs.Prelude.{flat_map}
-use Rattle.avida_program.specs.ReplayText.{resident_line}
-use Rattle.written_texts.specs.Pieces.{Writes}
+use Rattle.avida_program.proofs.Prelude.{resident_line, Writes}
 use Rattle.avida_program.proofs.replay.write_livings.Given as goal
 
 abbrev pub invariant-loop-living : goal.invariant-loop-living

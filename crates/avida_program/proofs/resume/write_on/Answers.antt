@@ -1,4 +1,4 @@
-use Rattle.std.proofs.lemmas.Result.{err_from_is_err_and}
+use Rattle.avida_program.proofs.Prelude.{err_from_is_err_and}
 use Rattle.avida_program.proofs.ResumeLemmas.{end_written, updates_stopped}
 use Rattle.avida_program.proofs.resume.write_on.Goals as goal
 

@@ -1,7 +1,5 @@
 use Rattle.std.proofs.Common.{◌∙◌}
-use Rattle.std.proofs.lemmas.Result.{err_from_is_err_and}
-use Rattle.saved_worlds.specs.Resuming.{next_text}
-use Rattle.written_texts.proofs.WriteLemmas.{nothing_written, put_ended}
+use Rattle.avida_program.proofs.Prelude.{err_from_is_err_and, next_text, nothing_written, put_ended}
 use Rattle.avida_program.proofs.resume.write_update.Goals as goal
 
 pub returns-in_err-next-clause-text : goal.returns-in_err-next-clause-text

@@ -1,8 +1,5 @@
 use Rattle.std.proofs.Common.{◌≡◌, ◌<◌, ◌+◌, ◌∙◌, ap, arith, sym}
-use Rattle.std.proofs.lemmas.Result.{err_from_is_err_and}
-use Rattle.saved_worlds.specs.Resuming.{next_state}
-use Rattle.saved_worlds.specs.SavedState.{SavedState}
-use Rattle.written_texts.proofs.WriteLemmas.{writes_nothing, writes_same}
+use Rattle.avida_program.proofs.Prelude.{err_from_is_err_and, next_state, SavedState, writes_nothing, writes_same}
 use Rattle.avida_program.proofs.ResumeLemmas.{next_state_update, next_stopped, next_written, state_begun, state_next}
 use Rattle.avida_program.proofs.resume.write_updates.Goals as goal
 

@@ -1,7 +1,6 @@
 -- The texts so far are written, and the saved world has come so far.
 use Rattle.std.proofs.Common.{◌≡◌, ◌+◌, Ok}
-use Rattle.saved_worlds.specs.Resuming.{later_texts, saved_state_after}
-use Rattle.written_texts.specs.WrittenText.{WritesAll}
+use Rattle.avida_program.proofs.Prelude.{later_texts, saved_state_after, WritesAll}
 use Rattle.avida_program.proofs.resume.write_updates.Given as goal
 
 abbrev pub invariant-loop : goal.invariant-loop

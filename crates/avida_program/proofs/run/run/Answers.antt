@@ -1,6 +1,5 @@
 use Rattle.std.proofs.Common.{refl}
-use Rattle.std.proofs.lemmas.Result.{err_from_is_err_and}
-use Rattle.world_config.specs.Shown.{values_of}
+use Rattle.avida_program.proofs.Prelude.{err_from_is_err_and, values_of}
 use Rattle.avida_program.proofs.RunEnds.{ran_to_end, run_not_read, run_stopped}
 use Rattle.avida_program.proofs.run.run.Goals as goal
 

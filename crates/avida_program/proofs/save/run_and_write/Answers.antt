@@ -1,11 +1,5 @@
 use Rattle.std.proofs.Common.{◌≡◌, ◌∙◌, ap, subst}
-use Rattle.std.proofs.lemmas.Result.{err_from_is_err_and}
-use Rattle.saved_worlds.specs.SavedState.{SavedState, state_of}
-use Rattle.saved_worlds.specs.SavedWorldText.{saved_text}
-use Rattle.world_config.specs.Shown.{values_of}
-use Rattle.written_texts.specs.WrittenText.{WritesAll}
-use Rattle.written_texts.proofs.WriteLemmas.{nothing_written}
-use Rattle.avida_program.specs.SaveText.{save_text}
+use Rattle.avida_program.proofs.Prelude.{err_from_is_err_and, SavedState, state_of, saved_text, values_of, WritesAll, nothing_written, save_text}
 use Rattle.avida_program.proofs.save.run_and_write.Goals as goal
 
 pub returns-in_err-world : goal.returns-in_err-world

@@ -1,10 +1,5 @@
 use Rattle.std.proofs.Common.{◌≡◌, ◌<◌, None, length, slice_index_or, subst, Ok, arith}
-use Rattle.std.proofs.lemmas.Result.{err_from_is_err_and}
-use Rattle.checkpoint.specs.Parts.{first_cells_text}
-use Rattle.saved_worlds.specs.SavedWorldText.{slot_text}
-use Rattle.written_texts.specs.WrittenText.{WritesAll}
-use Rattle.written_texts.proofs.WriteLemmas.{writes_nothing, writes_same}
-use Rattle.written_texts.proofs.GrowingTexts.{part_stopped, part_written}
+use Rattle.avida_program.proofs.Prelude.{err_from_is_err_and, first_cells_text, slot_text, WritesAll, writes_nothing, writes_same, part_stopped, part_written}
 use Rattle.avida_program.proofs.saved_world.write_cells.Goals as goal
 
 pub loop-cell-init : goal.loop-cell-init

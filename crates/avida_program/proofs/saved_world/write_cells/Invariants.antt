@@ -1,7 +1,6 @@
 -- The cells so far are written.
 use Rattle.std.proofs.Common.{Ok}
-use Rattle.checkpoint.specs.Parts.{first_cells_text}
-use Rattle.written_texts.specs.WrittenText.{WritesAll}
+use Rattle.avida_program.proofs.Prelude.{first_cells_text, WritesAll}
 use Rattle.avida_program.proofs.saved_world.write_cells.Given as goal
 
 abbrev pub invariant-loop-cell : goal.invariant-loop-cell

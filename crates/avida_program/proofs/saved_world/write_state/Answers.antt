@@ -1,9 +1,7 @@
 use Rattle.std.proofs.Common.{length}
-use Rattle.std.proofs.lemmas.Result.{err_from_is_err_and}
-use Rattle.lineage_log.specs.Slots.{taken}
+use Rattle.avida_program.proofs.Prelude.{err_from_is_err_and, first_cells_text, ids_of}
+use Rattle.lineage_log.specs.Reader.{taken}
 use Rattle.saved_lines.specs.SavedText.{count_text}
-use Rattle.checkpoint.specs.Parts.{first_cells_text}
-use Rattle.world_rules.specs.World.{ids_of}
 use Rattle.written_texts.proofs.WriteLemmas.{writes_short, writes_then}
 use Rattle.avida_program.proofs.saved_world.write_state.Goals as goal
 

@@ -1,6 +1,6 @@
 -- The numbers so far are written.
 use Rattle.std.proofs.Common.{◌≡◌, ◌++◌, take, map, decimal}
-use Rattle.log_lines.specs.LineText.{words_text}
+use Rattle.avida_program.proofs.Prelude.{words_text}
 use Rattle.avida_program.proofs.seeds.add_numbers.Given as goal
 
 abbrev pub invariant-loop-number : goal.invariant-loop-number

@@ -1,7 +1,7 @@
 -- The lines so far are written.
 use Rattle.std.proofs.Common.{◌≡◌, take}
 use Rattle.std.specs.Prelude.{flat_map}
-use Rattle.assay.specs.AssayText.{assay_line}
+use Rattle.assay.specs.Assay.{assay_line}
 use Rattle.avida_program.proofs.seeds.text_of.Given as goal
 
 abbrev pub invariant-loop-assay : goal.invariant-loop-assay

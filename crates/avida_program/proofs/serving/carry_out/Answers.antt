@@ -1,7 +1,6 @@
 use Rattle.std.proofs.Common.{refl}
+use Rattle.avida_program.proofs.Prelude.{ReadsLines, ReadsState, log_input_of, resume_input_of}
 use Rattle.avida_program.proofs.ReadEnds.{only_reads, reads_so}
-use Rattle.avida_program.specs.Input.{ReadsLines, ReadsState}
-use Rattle.avida_program.specs.InputAnswers.{log_input_of, resume_input_of}
 use Rattle.avida_program.proofs.serving.carry_out.Goals as goal
 
 pub returns-in-Trace : goal.returns-in-Trace

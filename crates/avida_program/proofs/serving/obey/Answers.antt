@@ -1,5 +1,5 @@
 use Rattle.std.proofs.Common.{map, string_bytes}
-use Rattle.avida_program.specs.CommandLine.{command_of}
+use Rattle.avida_program.proofs.Prelude.{command_of}
 use Rattle.avida_program.proofs.NothingDone.{nothing_done}
 use Rattle.avida_program.proofs.serving.obey.Goals as goal
 

@@ -1,11 +1,6 @@
 use Rattle.std.proofs.Common.{◌≡◌, Option}
-use Rattle.avida_port.specs.Ports.{SinkState}
-use Rattle.written_texts.specs.SinkChanges.{Change}
-use Rattle.avida_program.specs.declared.command.Command.{Command}
+use Rattle.avida_program.proofs.Prelude.{SinkState, Change, Command, TellsOf, Work, Obeys, Serves, Ended, status_of}
 use Rattle.avida_program.specs.declared.status.Status.{Status}
-use Rattle.avida_program.specs.Changes.{TellsOf, Work}
-use Rattle.avida_program.specs.Commands.{Obeys, Serves}
-use Rattle.avida_program.specs.Status.{Ended, status_of}
 use Rattle.avida_program.proofs.serving.serve.Goals as goal
 
 -- what was done, and what tells of it, is what the status promises

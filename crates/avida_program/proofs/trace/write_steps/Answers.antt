@@ -1,6 +1,5 @@
 use Rattle.std.proofs.Common.{◌≡◌, ◌<◌, ◌+◌, Err, arith}
-use Rattle.std.proofs.lemmas.Result.{err_from_is_err_and}
-use Rattle.avida_program.specs.TraceText.{trace_lines}
+use Rattle.avida_program.proofs.Prelude.{err_from_is_err_and, trace_lines}
 use Rattle.avida_program.proofs.TextEnds.{stopped_within, wanting_within}
 use Rattle.avida_program.proofs.TraceLemmas.{line_written, lines_front, lines_whole, stepped_once}
 use Rattle.avida_program.proofs.trace.write_steps.Goals as goal

@@ -1,8 +1,6 @@
 -- The lines so far are written, and the organism has come so far.
 use Rattle.std.proofs.Common.{◌≡◌, ◌≤◌, [], Ok}
-use Rattle.written_texts.specs.Pieces.{Writes}
-use Rattle.landscape.specs.Trace.{organism_after}
-use Rattle.avida_program.specs.TraceText.{trace_lines}
+use Rattle.avida_program.proofs.Prelude.{Writes, organism_after, trace_lines}
 use Rattle.avida_program.proofs.trace.write_steps.Given as goal
 
 abbrev pub invariant-loop-step : goal.invariant-loop-step

@@ -1,6 +1,6 @@
 -- The values so far are pushed.
 use Rattle.std.proofs.Common.{◌≡◌, ◌≤◌, ◌+◌, ◌*◌, ◌++◌, length, take}
-use Rattle.std.specs.List.{flat_map}
+use Rattle.avida_program.proofs.Prelude.{flat_map}
 use Rattle.written_texts.specs.NumberText.{spaced_value}
 use Rattle.avida_program.proofs.trace_line.push_values.Given as goal
 

@@ -1,8 +1,5 @@
 use Rattle.std.proofs.Common.{[], ◌∷◌}
-use Rattle.std.proofs.lemmas.Result.{err_from_is_err_and}
-use Rattle.organism.specs.TracedStep.{traced_value}
-use Rattle.avida_program.specs.TraceText.{remark_text, step_text, trace_line}
-use Rattle.written_texts.proofs.PieceLemmas.{writes_held, writes_short, writes_then}
+use Rattle.avida_program.proofs.Prelude.{err_from_is_err_and, traced_value, remark_text, step_text, trace_line, writes_held, writes_short, writes_then}
 use Rattle.avida_program.proofs.trace_line.write_line.Goals as goal
 
 pub returns-in_err-make_room : goal.returns-in_err-make_room

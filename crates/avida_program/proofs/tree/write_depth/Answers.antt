@@ -1,6 +1,4 @@
-use Rattle.std.proofs.lemmas.Result.{err_from_is_err_and}
-use Rattle.phylogeny.specs.TreeText.{depth_line}
-use Rattle.written_texts.proofs.PieceLemmas.{writes_held, writes_short, writes_then}
+use Rattle.avida_program.proofs.Prelude.{err_from_is_err_and, depth_line, writes_held, writes_short, writes_then}
 use Rattle.avida_program.proofs.tree.write_depth.Goals as goal
 
 pub returns-in_err-make_room : goal.returns-in_err-make_room

@@ -1,6 +1,5 @@
 use Rattle.std.proofs.Common.{◌+◌, Err}
-use Rattle.std.proofs.lemmas.Result.{err_from_is_err_and}
-use Rattle.phylogeny.specs.TreeText.{depth_line}
+use Rattle.avida_program.proofs.Prelude.{err_from_is_err_and, depth_line}
 use Rattle.avida_program.proofs.ListTexts.{item_short, next_written}
 use Rattle.avida_program.proofs.tree.write_depths.Goals as goal
 

@@ -1,8 +1,7 @@
 -- The lines so far are written.
 use Rattle.std.proofs.Common.{take, Ok}
 use Rattle.std.specs.Prelude.{flat_map}
-use Rattle.phylogeny.specs.TreeText.{depth_line}
-use Rattle.written_texts.specs.Pieces.{Writes}
+use Rattle.avida_program.proofs.Prelude.{depth_line, Writes}
 use Rattle.avida_program.proofs.tree.write_depths.Given as goal
 
 abbrev pub invariant-loop-depth : goal.invariant-loop-depth

@@ -1,6 +1,5 @@
 use Rattle.std.proofs.Common.{[], append-nil}
-use Rattle.std.proofs.lemmas.Result.{err_from_is_err_and}
-use Rattle.avida_program.specs.TreeText.{lines_of_tree}
+use Rattle.avida_program.proofs.Prelude.{err_from_is_err_and, lines_of_tree}
 use Rattle.avida_program.proofs.TextEnds.{stopped_within}
 use Rattle.avida_program.proofs.tree.write_found.Goals as goal
 

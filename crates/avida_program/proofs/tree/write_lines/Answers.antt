@@ -1,13 +1,7 @@
 use Rattle.std.proofs.Common.{◌≡◌, ℕ, List, ◌++◌, Result, subst}
 use Rattle.std.specs.Prelude.{flat_map}
-use Rattle.std.proofs.lemmas.Result.{err_from_is_err_and}
-use Rattle.avida_port.specs.Ports.{SinkState}
-use Rattle.avida_port.specs.declared.sink.SinkStop.{SinkStop}
+use Rattle.avida_program.proofs.Prelude.{err_from_is_err_and, SinkState, SinkStop, depth_line, Writes, last_lines, writes_held, writes_short, writes_then}
 use Rattle.phylogeny.specs.declared.depths.Depth.{Depth}
-use Rattle.phylogeny.specs.TreeText.{depth_line}
-use Rattle.written_texts.specs.Pieces.{Writes}
-use Rattle.avida_program.specs.TreeText.{last_lines}
-use Rattle.written_texts.proofs.PieceLemmas.{writes_held, writes_short, writes_then}
 use Rattle.avida_program.proofs.tree.write_lines.Goals as goal
 
 -- the lines of the same depths

@@ -1,14 +1,8 @@
 use Rattle.std.proofs.Common.{◌≡◌, ◌∙◌, List, ◌++◌, ap, sym, subst, append_assoc, length}
 use Rattle.std.specs.Prelude.{flat_map}
-use Rattle.std.proofs.lemmas.Result.{err_from_is_err_and}
-use Rattle.log_lines.specs.Line.{Line}
+use Rattle.avida_program.proofs.Prelude.{err_from_is_err_and, Line, pedigree_of, ancestor_line, depth_line, shape_line, tree_text, WritesAll, nothing_written, counts_line, last_lines, lines_of_tree}
 use Rattle.phylogeny.specs.declared.tree.Phylogeny.{Phylogeny}
 use Rattle.phylogeny.specs.CommonAncestor.{branches_of, depths_of, kept_ids_of, most_recent_common_ancestor}
-use Rattle.phylogeny.specs.LogPedigree.{pedigree_of}
-use Rattle.phylogeny.specs.TreeText.{ancestor_line, depth_line, shape_line, tree_text}
-use Rattle.written_texts.specs.WrittenText.{WritesAll}
-use Rattle.written_texts.proofs.WriteLemmas.{nothing_written}
-use Rattle.avida_program.specs.TreeText.{counts_line, last_lines, lines_of_tree}
 use Rattle.avida_program.proofs.tree.write_tree.Goals as goal
 
 -- the lines of what was found are the tree of the log

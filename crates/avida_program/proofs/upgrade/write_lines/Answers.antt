@@ -1,7 +1,5 @@
 use Rattle.std.proofs.Common.{◌≡◌, ◌+◌, ◌++◌, ◌∙◌, Err, ap, length, arith}
-use Rattle.std.proofs.lemmas.Result.{err_from_is_err_and}
-use Rattle.log_lines.specs.Line.{line_values}
-use Rattle.log_lines.specs.LineText.{line_text}
+use Rattle.avida_program.proofs.Prelude.{err_from_is_err_and, line_values, line_text}
 use Rattle.avida_program.proofs.ListTexts.{item_stopped, item_written, items_wanting, items_whole, texts_of_values}
 use Rattle.avida_program.proofs.upgrade.write_lines.Invariants.{text_of}
 use Rattle.avida_program.proofs.upgrade.write_lines.Goals as goal

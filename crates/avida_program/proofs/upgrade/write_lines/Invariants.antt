@@ -1,10 +1,8 @@
 -- The lines so far are written.
 use Rattle.std.proofs.Common.{ℕ, List, [], take, Ok}
 use Rattle.std.specs.Prelude.{flat_map}
+use Rattle.avida_program.proofs.Prelude.{line_values, line_text, Writes}
 use Rattle.log_lines.specs.declared.log_line.LogLine.{LogLine}
-use Rattle.log_lines.specs.Line.{line_values}
-use Rattle.log_lines.specs.LineText.{line_text}
-use Rattle.written_texts.specs.Pieces.{Writes}
 use Rattle.avida_program.proofs.upgrade.write_lines.Given as goal
 
 -- the text of a line

@@ -1,5 +1,5 @@
 use Rattle.std.proofs.Common.{◌∙◌, sym, ap, arith, ◌++◌, replicate, get_or, All, ◌<◌}
-use Rattle.birth_board.specs.Parents.{parents_of}
+use Rattle.birth_board.specs.Placement.{parents_of}
 use Rattle.birth_board.proofs.ParentsLemmas.{parents_below, parents_below-more, parents_below-rise}
 use Rattle.birth_board.proofs.parents.gather.Goals as goal
 

@@ -1,8 +1,6 @@
 use Rattle.std.proofs.Common.{◌≡◌, ◌∙◌, ◌∷◌, ap, map, List, rules, ℕ}
-use Rattle.std.specs.Vec.Iter.{into_iter_items}
-use Rattle.organism.specs.Newborns.{NewbornValue, newborn_value}
+use Rattle.cell_shards.proofs.Prelude.{into_iter_items, NewbornValue, newborn_value, born_in}
 use Rattle.organism.specs.declared.newborn.Newborn.{Newborn}
-use Rattle.cell_shards.specs.CellLives.{born_in}
 use Rattle.cell_shards.proofs.InterningLemmas.{HasInterned-more, births-more}
 use Rattle.cell_shards.proofs.delivering.deliver_each.Goals as goal
 

@@ -1,9 +1,5 @@
 use Rattle.std.proofs.Common.{◌≡◌, ◌++◌, map}
-use Rattle.std.specs.Vec.Iter.{into_iter_items}
-use Rattle.genotype_bank.specs.Seats.{SeatValue}
-use Rattle.organism.specs.Newborns.{newborn_value}
-use Rattle.cell_shards.specs.CellLives.{born_in}
-use Rattle.cell_shards.specs.Finishing.{HasInterned, birth_of}
+use Rattle.cell_shards.proofs.Prelude.{into_iter_items, SeatValue, newborn_value, born_in, HasInterned, birth_of}
 use Rattle.cell_shards.proofs.delivering.deliver_each.Given as goal
 
 abbrev pub invariant-loop-newborn : goal.invariant-loop-newborn

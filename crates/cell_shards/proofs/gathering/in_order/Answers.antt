@@ -1,8 +1,6 @@
 use Rattle.std.proofs.Common.{rules, ◌≡◌, ◌∷◌, arith}
-use Rattle.std.specs.Vec.Iter.{into_iter_items}
-use Rattle.std.proofs.lemmas.List.Elements.{All-same}
+use Rattle.cell_shards.proofs.Prelude.{into_iter_items, All-same, HasRun}
 use Rattle.std.proofs.lemmas.List.Sorted.{All-permutation}
-use Rattle.cell_shards.specs.Finishing.{HasRun}
 use Rattle.cell_shards.proofs.FinishLemmas.{AreFinished-first, Gathered-more}
 use Rattle.cell_shards.proofs.gathering.in_order.Goals as goal
 

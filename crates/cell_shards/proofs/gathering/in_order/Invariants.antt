@@ -1,4 +1,4 @@
-use Rattle.std.specs.Vec.Iter.{into_iter_items}
+use Rattle.cell_shards.proofs.Prelude.{into_iter_items}
 use Rattle.cell_shards.proofs.FinishLemmas.{Gathered}
 use Rattle.cell_shards.proofs.gathering.in_order.Given as goal
 

@@ -1,4 +1,4 @@
-use Rattle.cell_shards.specs.CellLives.{dead_in, newborns_in}
+use Rattle.cell_shards.proofs.Prelude.{dead_in, newborns_in}
 use Rattle.cell_shards.proofs.PartLemmas.{length-lives_of, lives_of-append, told-append}
 use Rattle.cell_shards.proofs.laws.parts_live_as_one.Goals as goal
 

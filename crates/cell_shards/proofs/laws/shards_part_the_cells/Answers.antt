@@ -1,5 +1,5 @@
 use Rattle.std.proofs.Common.{◌∙◌, ◌+◌, ap, refl, sym, arith}
-use Rattle.cell_shards.specs.Shards.{first_cell}
+use Rattle.cell_shards.proofs.Prelude.{first_cell}
 use Rattle.cell_shards.proofs.ShardLemmas.{first_cell-rises, first_cell-zero, first_cell-end, shard_of, shard-only}
 use Rattle.cell_shards.proofs.laws.shards_part_the_cells.Goals as goal
 

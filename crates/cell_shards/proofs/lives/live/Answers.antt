@@ -1,8 +1,5 @@
 use Rattle.std.proofs.Common.{◌≡◌, ◌∙◌, ap, refl, sym, subst, ℕ, ◌+◌, ◌<◌, List, None, [], length, map, get_or, arith}
-use Rattle.std.proofs.lemmas.List.{get_or_default}
-use Rattle.cell_shards.specs.CellLives.{IsYoung, round_numbers, shard_life_of}
-use Rattle.cell_shards.specs.Finishing.{HasInterned, birth_of, part_of}
-use Rattle.cell_shards.specs.declared.lives.Left.{Left}
+use Rattle.cell_shards.proofs.Prelude.{get_or_default, IsYoung, round_numbers, shard_life_of, HasInterned, birth_of, part_of, Left}
 use Rattle.cell_shards.proofs.InterningLemmas.{HasInterned-none}
 use Rattle.cell_shards.proofs.LivesLemmas.{HaveLived-more, HaveLived-next, IsFinished-lived}
 use Rattle.cell_shards.proofs.lives.live.Goals as goal

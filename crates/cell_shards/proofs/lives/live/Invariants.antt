@@ -1,6 +1,5 @@
 use Rattle.std.proofs.Common.{◌≡◌, map}
-use Rattle.cell_shards.specs.CellLives.{round_numbers}
-use Rattle.cell_shards.specs.Finishing.{HasInterned, birth_of, part_of}
+use Rattle.cell_shards.proofs.Prelude.{round_numbers, HasInterned, birth_of, part_of}
 use Rattle.cell_shards.proofs.LivesLemmas.{HaveLived}
 use Rattle.cell_shards.proofs.lives.live.Given as goal
 

@@ -1,8 +1,5 @@
 use Rattle.std.proofs.Common.{◌∙◌, ◌++◌, ◌∷◌, [], subst, sym}
-use Rattle.std.proofs.lemmas.Result.{on_ok_weaker}
-use Rattle.organism.specs.OrganismLife.{OrganismLife}
-use Rattle.cell_shards.specs.Finishing.{IsToldBehind}
-use Rattle.cell_shards.specs.declared.lives.Left.{Left}
+use Rattle.cell_shards.proofs.Prelude.{on_ok_weaker, OrganismLife, IsToldBehind, Left}
 use Rattle.cell_shards.proofs.lives.live_at.Goals as goal
 
 pub returns : goal.returns

@@ -1,11 +1,5 @@
 use Rattle.std.proofs.Common.{◌≡◌, ap, map}
-use Rattle.random_streams.specs.RandomStream.{word_of}
-use Rattle.organism.specs.Lived.{beginning}
-use Rattle.organism.specs.Newborns.{newborn_value}
-use Rattle.organism.specs.OrganismState.{OrganismState}
-use Rattle.organism.specs.UpdateLife.{life_state}
-use Rattle.cell_shards.specs.Bodies.{organism_once_made}
-use Rattle.cell_shards.specs.CellLives.{round_numbers}
+use Rattle.cell_shards.proofs.Prelude.{word_of, beginning, newborn_value, OrganismState, life_state, organism_once_made, round_numbers}
 use Rattle.cell_shards.proofs.LivesLemmas.{life_of-run}
 use Rattle.cell_shards.proofs.lives.live_once.Goals as goal
 

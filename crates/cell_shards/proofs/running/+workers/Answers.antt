@@ -1,8 +1,5 @@
 use Rattle.std.proofs.Common.{All, subst, sym}
-use Rattle.std.proofs.lemmas.List.Elements.{All-append}
-use Rattle.std.proofs.lemmas.Result.{IfOk-at_ok}
-use Rattle.cell_shards.specs.CellLives.{round_numbers}
-use Rattle.cell_shards.specs.Finishing.{HasRun}
+use Rattle.cell_shards.proofs.Prelude.{All-append, IfOk-at_ok, round_numbers, HasRun}
 use Rattle.cell_shards.proofs.running.+workers.Goals as goal
 
 pub returns-clause-done : goal.returns-clause-done

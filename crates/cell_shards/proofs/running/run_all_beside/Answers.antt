@@ -1,7 +1,5 @@
 use Rattle.std.proofs.Common.{List, subst}
-use Rattle.cell_shards.specs.CellLives.{round_numbers}
-use Rattle.cell_shards.specs.Finishing.{AreFinished}
-use Rattle.cell_shards.specs.declared.job.Job.{Job}
+use Rattle.cell_shards.proofs.Prelude.{round_numbers, AreFinished, Job}
 use Rattle.cell_shards.proofs.running.run_all_beside.Goals as goal
 
 pub returns-clause-finished : goal.returns-clause-finished

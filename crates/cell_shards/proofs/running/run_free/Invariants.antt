@@ -1,6 +1,5 @@
 use Rattle.std.proofs.Common.{◌≡◌, All}
-use Rattle.cell_shards.specs.CellLives.{round_numbers}
-use Rattle.cell_shards.specs.Finishing.{HasRun}
+use Rattle.cell_shards.proofs.Prelude.{round_numbers, HasRun}
 use Rattle.cell_shards.proofs.running.run_free.Given as goal
 
 abbrev pub invariant-loop-number : goal.invariant-loop-number

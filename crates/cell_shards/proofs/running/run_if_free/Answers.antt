@@ -1,7 +1,5 @@
 use Rattle.std.proofs.Common.{All, subst, sym}
-use Rattle.std.proofs.lemmas.List.Elements.{All-push}
-use Rattle.cell_shards.specs.CellLives.{round_numbers}
-use Rattle.cell_shards.specs.Finishing.{HasRun}
+use Rattle.cell_shards.proofs.Prelude.{All-push, round_numbers, HasRun}
 use Rattle.cell_shards.proofs.running.run_if_free.Goals as goal
 
 pub returns-clause-done : goal.returns-clause-done

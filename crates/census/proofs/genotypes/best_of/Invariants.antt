@@ -1,6 +1,6 @@
 use Rattle.std.proofs.Common.{◌≡◌}
 use Rattle.std.specs.List.{best_of}
-use Rattle.census.specs.Dominance.{outranks}
+use Rattle.census.specs.Counts.{outranks}
 use Rattle.census.proofs.genotypes.best_of.Given as goal
 
 -- what the rest makes of the best so far

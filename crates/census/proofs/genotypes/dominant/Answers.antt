@@ -1,6 +1,6 @@
 use Rattle.std.proofs.Common.{◌∙◌, sym, ap, Some}
 use Rattle.std.specs.Option.{option_copied}
-use Rattle.census.specs.Dominance.{dominant_among}
+use Rattle.census.specs.Counts.{dominant_among}
 use Rattle.census.proofs.DominanceLemmas.{dominant-best}
 use Rattle.census.proofs.genotypes.dominant.Goals as goal
 

@@ -1,6 +1,6 @@
 use Rattle.std.proofs.Common.{ap, sym, ◌∙◌}
 use Rattle.std.specs.Prelude.{option_map}
-use Rattle.saved_lines.specs.SavedLines.{values_of_line}
+use Rattle.checkpoint.proofs.Prelude.{values_of_line}
 use Rattle.checkpoint.proofs.read.place_after.Goals as goal
 
 pub told_saved_line-requires : goal.told_saved_line-requires

@@ -1,11 +1,6 @@
 use Rattle.std.proofs.Common.{◌≡◌, ◌<◌, ℕ, List, Option, Bor, Result, Err, length, sym, subst, ◌∙◌, arith, rules}
 use Rattle.std.specs.Prelude.{IfSome}
-use Rattle.saved_worlds.specs.SavedState.{SavedState}
-use Rattle.saved_worlds.specs.SavedGrammar.{saved_of}
-use Rattle.saved_worlds.specs.declared.saved_stop.SavedStop.{SavedStop}
-use Rattle.checkpoint.specs.Places.{saved_place_of}
-use Rattle.checkpoint.specs.Reading.{Ends, IsFaultOf}
-use Rattle.checkpoint.specs.SoFarValue.{SoFarValue}
+use Rattle.checkpoint.proofs.Prelude.{SavedState, saved_of, SavedStop, saved_place_of, Ends, IsFaultOf, SoFarValue}
 use Rattle.checkpoint.proofs.ReadLemmas.{left_faulty, left_on}
 use Rattle.checkpoint.proofs.read.read_lines.Goals as goal
 

@@ -1,7 +1,5 @@
 use Rattle.std.proofs.Common.{◌≡◌, ◌+◌, ◌≤◌, length}
-use Rattle.saved_worlds.specs.SavedGrammar.{pieces_state, saved_of}
-use Rattle.checkpoint.specs.Places.{saved_place_of}
-use Rattle.saved_worlds.proofs.SavedPieces.{cut}
+use Rattle.checkpoint.proofs.Prelude.{pieces_state, saved_of, saved_place_of, cut}
 use Rattle.checkpoint.proofs.read.read_lines.Given as goal
 
 abbrev pub invariant-loop-behind : goal.invariant-loop-behind

@@ -1,6 +1,6 @@
 use Rattle.std.proofs.Common.{◌∙◌}
+use Rattle.command_line.proofs.Prelude.{found_of}
 use Rattle.clap.proofs.WalkLemmas.{first_value-rows}
-use Rattle.clap.specs.Words.{found_of}
 use Rattle.command_line.proofs.numbers.text_in.Goals as goal
 
 pub returns : goal.returns

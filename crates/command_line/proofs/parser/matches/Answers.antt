@@ -1,10 +1,7 @@
 use Rattle.std.proofs.Common.{◌≡◌, [], ◌∷◌, inl, inr}
-use Rattle.clap.specs.declared.error.kind.ErrorKind.{ErrorKind}
-use Rattle.clap.specs.Words.{kind_of, HasKind, Kinds, IsAmong}
+use Rattle.command_line.proofs.Prelude.{ErrorKind, kind_of, HasKind, IsAmong, refused_by, IsRefusedBy, Memory, BadWords, Refused}
+use Rattle.clap.specs.Words.{Kinds}
 use Rattle.clap.specs.declared.error.Error.{Error}
-use Rattle.command_line.specs.Refusals.{refused_by, IsRefusedBy}
-use Rattle.command_line.specs.declared.refused.Refused.TheVariants.{Memory, BadWords}
-use Rattle.command_line.specs.declared.refused.Refused.{Refused}
 use Rattle.command_line.proofs.parser.matches.Goals as goal
 
 some_kind : (k : ErrorKind) (kinds : Kinds) → IsAmong k kinds → (r : Refused) → IsRefusedBy kinds r

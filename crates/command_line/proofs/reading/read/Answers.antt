@@ -1,6 +1,5 @@
 use Rattle.std.proofs.Common.{◌∙◌, ap}
-use Rattle.std.proofs.lemmas.Result.{err_from_is_err_and}
-use Rattle.clap.specs.Words.{app_of, found_of, is_simple, is_simple_and_free, rows_of}
+use Rattle.command_line.proofs.Prelude.{err_from_is_err_and, app_of, found_of, is_simple, is_simple_and_free, rows_of}
 use Rattle.command_line.proofs.ParserEnds.{ends, stops}
 use Rattle.command_line.proofs.reading.read.Goals as goal
 

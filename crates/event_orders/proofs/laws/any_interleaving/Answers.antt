@@ -1,5 +1,4 @@
-use Rattle.std.proofs.Math.Seq.{take-length}
-use Rattle.world_config.specs.Shown.{values_of}
+use Rattle.event_orders.proofs.Prelude.{take-length, values_of}
 use Rattle.event_orders.proofs.Interleaving.{goes_on_with}
 use Rattle.event_orders.proofs.laws.any_interleaving.Goals as goal
 

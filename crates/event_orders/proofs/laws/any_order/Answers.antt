@@ -1,8 +1,5 @@
 use Rattle.std.proofs.Common.{◌+◌, ◌<◌, length, arith}
-use Rattle.std.proofs.Math.Seq.{take-length}
-use Rattle.std.proofs.lemmas.Option.{slice_get_within}
-use Rattle.world_config.specs.Shown.{values_of}
-use Rattle.event_orders.specs.declared.schedule.ScheduleEvent.TheVariants.{Gather}
+use Rattle.event_orders.proofs.Prelude.{take-length, slice_get_within, values_of, Gather}
 use Rattle.event_orders.proofs.Between.{world_at, genotypes_at, pictures_at}
 use Rattle.event_orders.proofs.Looks.{looks_never_fall}
 use Rattle.event_orders.proofs.laws.any_order.Goals as goal

@@ -1,4 +1,4 @@
-use Rattle.world_config.specs.Shown.{values_of}
+use Rattle.event_orders.proofs.Prelude.{values_of}
 use Rattle.event_orders.proofs.Serial.{schedule_for}
 use Rattle.event_orders.proofs.laws.some_order.Goals as goal
 

@@ -1,6 +1,5 @@
 use Rattle.std.proofs.Common.{◌≡◌, ◌++◌, map}
-use Rattle.genome.specs.Genome.{letters}
-use Rattle.genotype_bank.specs.Letters.{letters_in}
+use Rattle.genotype_bank.proofs.Prelude.{letters, letters_in}
 use Rattle.genotype_bank.proofs.bank.unpack_all.Given as goal
 
 abbrev pub invariant-loop-genome : goal.invariant-loop-genome

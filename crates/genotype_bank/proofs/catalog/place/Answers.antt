@@ -1,8 +1,6 @@
 use Rattle.std.proofs.Common.{◌∙◌, ap, sym, Some}
-use Rattle.std.proofs.lemmas.Option.{slice_get-map}
+use Rattle.genotype_bank.proofs.Prelude.{slice_get-map, same_letters, letters_in, letters_of}
 use Rattle.std.specs.Option.{option_map}
-use Rattle.instruction_set.specs.Letter.{same_letters}
-use Rattle.genotype_bank.specs.Letters.{letters_in, letters_of}
 use Rattle.genotype_bank.proofs.DifferentLemmas.{map-insert_key}
 use Rattle.genotype_bank.proofs.PackedLemmas.{packed_eq}
 use Rattle.genotype_bank.proofs.catalog.place.Goals as goal

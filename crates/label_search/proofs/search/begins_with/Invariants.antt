@@ -1,8 +1,5 @@
 use Rattle.std.proofs.Common.{◌≡◌, ◌≤◌, length, take, drop}
-use Rattle.std.specs.Cmp.Lexicographic.{pointwise}
-use Rattle.instruction_set.specs.Letter.{same_letter}
-use Rattle.label_search.specs.Search.{begins_with}
-use Rattle.label_search.specs.Site.{letters_of}
+use Rattle.label_search.proofs.Prelude.{pointwise, same_letter, begins_with, letters_of}
 use Rattle.label_search.proofs.search.begins_with.Given as goal
 
 -- the rests are still to be compared

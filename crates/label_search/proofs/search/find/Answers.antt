@@ -1,4 +1,4 @@
-use Rattle.label_search.specs.Site.{letters_of}
+use Rattle.label_search.proofs.Prelude.{letters_of}
 use Rattle.label_search.proofs.SearchLemmas.{first_match-least, first_match-before_end}
 use Rattle.label_search.proofs.search.find.Goals as goal
 

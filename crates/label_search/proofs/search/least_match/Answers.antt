@@ -1,8 +1,5 @@
 use Rattle.std.proofs.Common.{◌≡◌, ◌∙◌, ◌-◌, sym, ap, arith, length, true, false}
-use Rattle.std.specs.List.{find, range_with_len}
-use Rattle.std.proofs.lemmas.List.{length-map}
-use Rattle.label_search.specs.Search.{occurs_at}
-use Rattle.label_search.specs.Site.{letters_of}
+use Rattle.label_search.proofs.Prelude.{find, range_with_len, length-map, occurs_at, letters_of}
 use Rattle.label_search.proofs.SearchLemmas.{find-next}
 use Rattle.label_search.proofs.search.least_match.Goals as goal
 

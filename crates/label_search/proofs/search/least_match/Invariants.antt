@@ -1,7 +1,5 @@
 use Rattle.std.proofs.Common.{◌≡◌, ◌-◌, length}
-use Rattle.std.specs.List.{find, range_with_len}
-use Rattle.label_search.specs.Search.{occurs_at, first_match}
-use Rattle.label_search.specs.Site.{letters_of}
+use Rattle.label_search.proofs.Prelude.{find, range_with_len, occurs_at, first_match, letters_of}
 use Rattle.label_search.proofs.search.least_match.Given as goal
 
 -- the first match is among the places that are left

@@ -1,7 +1,5 @@
 use Rattle.std.proofs.Common.{◌≡◌, arith, drop}
-use Rattle.std.proofs.lemmas.Grind.{common_steps}
-use Rattle.std.proofs.lemmas.List.{drop-map}
-use Rattle.label_search.specs.Site.{letters_of}
+use Rattle.label_search.proofs.Prelude.{common_steps, drop-map, letters_of}
 use Rattle.label_search.proofs.search.stands_at.Goals as goal
 
 pub returns-then-same_letter : goal.returns-then-same_letter

@@ -1,10 +1,6 @@
 use Rattle.std.proofs.Common.{◌≡◌, ◌∙◌, sym, ap, arith, ◌+◌, ◌-◌, [], append_assoc, append-nil, true, false, length-append, refl, add-zero}
 use Rattle.std.specs.Prelude.{unwrap_or}
-use Rattle.std.proofs.Math.Nat.{mod-eq_of_lt}
-use Rattle.std.proofs.lemmas.Grind.{common_steps}
-use Rattle.instruction_set.specs.Letter.{complement_of}
-use Rattle.label_search.specs.Site.{letters_of}
-use Rattle.label_search.specs.Template.{is_nop, letter_after, template_after}
+use Rattle.label_search.proofs.Prelude.{mod-eq_of_lt, common_steps, complement_of, letters_of, is_nop, letter_after, template_after}
 use Rattle.label_search.proofs.TemplateLemmas.{letter-next, nops_read-room, next-place, nops-next, nops-end, is_nop-complement}
 use Rattle.label_search.proofs.template.complement_after.Goals as goal
 

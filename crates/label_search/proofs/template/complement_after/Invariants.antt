@@ -1,7 +1,5 @@
 use Rattle.std.proofs.Common.{◌≡◌, ◌+◌, ◌-◌, ◌%◌, ◌++◌, length, map}
-use Rattle.std.specs.List.{take_while, range_with_len}
-use Rattle.label_search.specs.Site.{letters_of}
-use Rattle.label_search.specs.Template.{is_nop, letter_after, template_after, complements_of}
+use Rattle.label_search.proofs.Prelude.{take_while, range_with_len, letters_of, is_nop, letter_after, template_after, complements_of}
 use Rattle.label_search.proofs.template.complement_after.Given as goal
 
 -- the complements so far, and those of the nops among the letters that are left

@@ -1,5 +1,5 @@
 use Rattle.std.proofs.Common.{◌≡◌, ◌+◌, ◌-◌, length}
-use Rattle.label_search.specs.PackedTemplate.{newest_first}
+use Rattle.label_search.proofs.Prelude.{newest_first}
 use Rattle.label_search.proofs.template.count_digits.Given as goal
 
 -- the digits so far, and those that are left

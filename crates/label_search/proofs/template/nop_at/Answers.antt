@@ -1,5 +1,5 @@
 use Rattle.std.proofs.Common.{arith, ◌∙◌, sym}
-use Rattle.instruction_set.specs.declared.letter.Letter.TheVariants.{NopA}
+use Rattle.label_search.proofs.Prelude.{NopA}
 use Rattle.label_search.proofs.PackedLemmas.{newest-few, newest-at}
 use Rattle.label_search.proofs.template.nop_at.Goals as goal
 

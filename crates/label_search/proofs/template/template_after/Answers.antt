@@ -1,8 +1,6 @@
 use Rattle.std.proofs.Common.{◌≡◌, ◌∙◌, sym, arith, ◌+◌, ◌-◌, ◌++◌, [], ◌∷◌, append_assoc, true, false, length-append, refl, add-zero}
-use Rattle.std.proofs.Math.Nat.{mod-eq_of_lt}
-use Rattle.std.proofs.lemmas.Grind.{common_steps}
+use Rattle.label_search.proofs.Prelude.{mod-eq_of_lt, common_steps, is_nop, letter_after, template_after}
 use Rattle.std.proofs.lemmas.List.Elements.{All-nil}
-use Rattle.label_search.specs.Template.{is_nop, letter_after, template_after}
 use Rattle.label_search.proofs.TemplateLemmas.{nops_read-room, next-place, nops-next, nops-end}
 use Rattle.label_search.proofs.template.template_after.Goals as goal
 

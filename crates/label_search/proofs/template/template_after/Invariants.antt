@@ -1,6 +1,5 @@
 use Rattle.std.proofs.Common.{◌≡◌, ◌+◌, ◌-◌, ◌%◌, ◌++◌, length, map}
-use Rattle.std.specs.List.{take_while, range_with_len}
-use Rattle.label_search.specs.Template.{is_nop, letter_after, template_after, IsTemplate}
+use Rattle.label_search.proofs.Prelude.{take_while, range_with_len, is_nop, letter_after, template_after, IsTemplate}
 use Rattle.label_search.proofs.template.template_after.Given as goal
 
 -- the nops so far, and those among the letters that are left

@@ -1,7 +1,7 @@
 use Rattle.std.proofs.Common.{add-one, ap, sym, ◌∙◌, arith}
 use Rattle.genome.specs.Genome.{letters}
 use Rattle.organism.specs.TracedStep.{trace_step_of, traced_value}
-use Rattle.landscape.specs.Trace.{organism_after, traced_organism}
+use Rattle.landscape.specs.Trials.{organism_after, traced_organism}
 use Rattle.landscape.proofs.TrialLemmas.{first_start, found, missed, shown_after}
 use Rattle.landscape.proofs.trying.trial.Goals as goal
 

@@ -1,7 +1,6 @@
 use Rattle.std.proofs.Common.{◌≡◌, ◌≤◌}
 use Rattle.genome.specs.Genome.{letters}
-use Rattle.landscape.specs.Trace.{organism_after, traced_organism}
-use Rattle.landscape.specs.Trials.{trial_of}
+use Rattle.landscape.specs.Trials.{organism_after, traced_organism, trial_of}
 use Rattle.landscape.proofs.TrialLemmas.{first_from}
 use Rattle.landscape.proofs.trying.trial.Given as goal
 

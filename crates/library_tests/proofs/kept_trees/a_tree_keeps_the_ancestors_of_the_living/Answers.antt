@@ -1,6 +1,6 @@
 use Rattle.std.proofs.Common.{◌∙◌, ap, sym, subst, refl, Some}
 use Rattle.mutations.specs.BirthRecord.{record_of}
-use Rattle.lineage_log.specs.Trees.{TreeValue, CanCome, genome_in_tree}
+use Rattle.lineage_log.specs.Ancestry.{TreeValue, CanCome, genome_in_tree}
 use Rattle.library_tests.proofs.FamilyLemmas.{applies, family_of, grandchild_comes, lives_first, lives_last, lives_middle, living_three, middle_stays, same_child}
 use Rattle.library_tests.proofs.kept_trees.a_tree_keeps_the_ancestors_of_the_living.Goals as goal
 

@@ -1,7 +1,5 @@
 use Rattle.std.proofs.Common.{List, Result, subst}
-use Rattle.log_lines.specs.Line.{Line}
-use Rattle.lineage_log.specs.declared.log_stop.LogStop.{LogStop}
-use Rattle.lineage_log.specs.ReadsLog.{ReadsLog}
+use Rattle.lineage_log.proofs.Prelude.{Line, LogStop, ReadsLog}
 use Rattle.lineage_log.proofs.ReadsLogLemmas.{log_is_read, reads_one_log}
 use Rattle.lineage_log.proofs.laws.one_answer.Goals as goal
 

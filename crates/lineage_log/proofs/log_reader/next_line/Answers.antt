@@ -1,12 +1,6 @@
 use Rattle.std.proofs.Common.{◌≡◌, ◌∙◌, Some, Result, sym, ap, subst}
 use Rattle.std.specs.Prelude.{option_map}
-use Rattle.log_lines.specs.Line.{line_values}
-use Rattle.log_lines.specs.LineReading.{line_of}
-use Rattle.lineage_log.specs.Order.{told}
-use Rattle.lineage_log.specs.LogReading.{left_of}
-use Rattle.lineage_log.specs.Places.{place_of}
-use Rattle.lineage_log.specs.Readings.{Tells}
-use Rattle.lineage_log.specs.declared.refusal.Refusal.{Refusal}
+use Rattle.lineage_log.proofs.Prelude.{line_values, line_of, told, left_of, place_of, Tells, Refusal}
 use Rattle.lineage_log.proofs.ReadLemmas.{next_piece, bad_line, bad_order, good_line, refused}
 use Rattle.lineage_log.proofs.log_reader.next_line.Goals.{After-tell}
 use Rattle.lineage_log.proofs.log_reader.next_line.Goals as goal

@@ -1,5 +1,5 @@
 use Rattle.std.proofs.Common.{◌∙◌}
-use Rattle.lineage_log.specs.Places.{place_of}
+use Rattle.lineage_log.proofs.Prelude.{place_of}
 use Rattle.lineage_log.proofs.ReadLemmas.{next_piece, bad_line, good_line, refused_piece}
 use Rattle.lineage_log.proofs.log_reader.tell_next.Goals as goal
 

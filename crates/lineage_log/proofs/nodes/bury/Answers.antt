@@ -1,6 +1,5 @@
 use Rattle.std.proofs.Common.{◌<◌, ap, subst, suc, ℕ, Option, arith}
-use Rattle.std.specs.Option.{option_map_or}
-use Rattle.lineage_log.specs.Nodes.{id_order}
+use Rattle.lineage_log.proofs.Prelude.{option_map_or, id_order}
 use Rattle.lineage_log.proofs.DeathLemmas.{Go, go_again, go_first, laid_down, lies, next_counts}
 use Rattle.lineage_log.proofs.KeptLemmas.{buried}
 use Rattle.lineage_log.proofs.nodes.bury.Goals as goal

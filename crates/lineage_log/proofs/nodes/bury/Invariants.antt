@@ -1,6 +1,5 @@
 use Rattle.std.proofs.Common.{suc}
-use Rattle.std.specs.Option.{option_map_or}
-use Rattle.lineage_log.specs.Nodes.{id_order}
+use Rattle.lineage_log.proofs.Prelude.{option_map_or, id_order}
 use Rattle.lineage_log.proofs.DeathLemmas.{Go, laid_down}
 use Rattle.lineage_log.proofs.nodes.bury.Given as goal
 

@@ -1,9 +1,6 @@
 use Rattle.std.proofs.Common.{◌≡◌, ◌∙◌, ap, sym, cond, ℕ, ◌+◌, Some, arith}
 use Rattle.std.specs.Prelude.{nat_eq}
-use Rattle.std.specs.Map.{lookup}
-use Rattle.lineage_log.specs.Links.{Link}
-use Rattle.lineage_log.specs.Nodes.{AreNodes, id_order, tree_of}
-use Rattle.lineage_log.specs.Trees.{tree_with_newcomer}
+use Rattle.lineage_log.proofs.Prelude.{lookup, Link, tree_with_newcomer, AreNodes, id_order, tree_of}
 use Rattle.lineage_log.proofs.ComingLemmas.{Comes, child_enters, comes, founder_enters, has_room}
 use Rattle.lineage_log.proofs.OrderLemmas.{order_at, order_few, order_finds, order_put, order_rises, order_set}
 use Rattle.lineage_log.proofs.nodes.enter.Goals.{In_ok-insert}

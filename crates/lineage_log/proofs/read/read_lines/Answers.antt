@@ -1,7 +1,6 @@
 use Rattle.std.proofs.Common.{◌∙◌, List, ap}
+use Rattle.lineage_log.proofs.Prelude.{left_of, lines_of}
 use Rattle.log_lines.specs.declared.log_line.LogLine.{LogLine}
-use Rattle.lineage_log.specs.LogReading.{left_of}
-use Rattle.lineage_log.specs.LogValues.{lines_of}
 use Rattle.lineage_log.proofs.LeftLemmas.{left_at_start}
 use Rattle.lineage_log.proofs.ReadLemmas.{front_none, with_front}
 use Rattle.lineage_log.proofs.read.read_lines.Goals as goal

@@ -1,7 +1,5 @@
 use Rattle.std.proofs.Common.{◌≡◌, length}
-use Rattle.lineage_log.specs.LogGrammar.{log_of}
-use Rattle.lineage_log.specs.LogReading.{left_of}
-use Rattle.lineage_log.specs.LogValues.{lines_of}
+use Rattle.lineage_log.proofs.Prelude.{log_of, left_of, lines_of}
 use Rattle.lineage_log.proofs.read.read_lines.Given as goal
 use Rattle.lineage_log.proofs.ReadLemmas.{with_front}
 

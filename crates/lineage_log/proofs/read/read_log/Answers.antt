@@ -1,4 +1,4 @@
-use Rattle.lineage_log.specs.LogValues.{lines_of}
+use Rattle.lineage_log.proofs.Prelude.{lines_of}
 use Rattle.lineage_log.proofs.ReadLemmas.{good_read}
 use Rattle.lineage_log.proofs.read.read_log.Goals as goal
 

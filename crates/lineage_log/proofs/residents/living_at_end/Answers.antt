@@ -1,9 +1,6 @@
 use Rattle.std.proofs.Common.{◌∙◌, ℕ, List, Ok, sym, ap}
+use Rattle.lineage_log.proofs.Prelude.{LeavesReader, living_residents_of, Resident, log_of, reader_of}
 use Rattle.lineage_log.specs.declared.reader.Reader as code
-use Rattle.lineage_log.specs.Livings.{LeavesReader, living_residents_of}
-use Rattle.lineage_log.specs.LogGrammar.{log_of}
-use Rattle.lineage_log.specs.Readings.{reader_of}
-use Rattle.lineage_log.specs.Replay.{Resident}
 use Rattle.lineage_log.proofs.ReadLemmas.{ReadsExactly, good_read}
 use Rattle.lineage_log.proofs.ReplayLemmas.{Leaves, leaves}
 use Rattle.lineage_log.proofs.residents.living_at_end.Goals as goal

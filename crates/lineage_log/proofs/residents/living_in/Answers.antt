@@ -1,6 +1,5 @@
 use Rattle.std.proofs.Common.{◌++◌, ◌∙◌, List, Some, None, sym, ap, append-nil}
-use Rattle.lineage_log.specs.Replay.{Resident, residents_from}
-use Rattle.lineage_log.specs.Residents.{kept_genomes}
+use Rattle.lineage_log.proofs.Prelude.{Resident, residents_from, kept_genomes}
 use Rattle.lineage_log.proofs.ResidentWalks.{cell_walked}
 use Rattle.lineage_log.proofs.residents.living_in.Goals.{in-Some+in_ok-living_at+in_ok-push, in_default}
 use Rattle.lineage_log.proofs.residents.living_in.Goals as goal

@@ -1,6 +1,5 @@
 use Rattle.std.proofs.Common.{◌≡◌, ◌++◌, drop}
-use Rattle.lineage_log.specs.Replay.{residents_from}
-use Rattle.lineage_log.specs.Residents.{kept_genomes}
+use Rattle.lineage_log.proofs.Prelude.{residents_from, kept_genomes}
 use Rattle.lineage_log.proofs.residents.living_in.Given as goal
 
 abbrev pub invariant-loop-cell : goal.invariant-loop-cell

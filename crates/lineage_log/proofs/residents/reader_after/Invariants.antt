@@ -1,7 +1,5 @@
 use Rattle.std.proofs.Common.{◌≡◌, drop}
-use Rattle.lineage_log.specs.LogValues.{lines_of}
-use Rattle.lineage_log.specs.Order.{Before, told_all}
-use Rattle.lineage_log.specs.Places.{place_of}
+use Rattle.lineage_log.proofs.Prelude.{lines_of, Before, told_all, place_of}
 use Rattle.lineage_log.proofs.residents.reader_after.Given as goal
 
 abbrev pub invariant-loop-line : goal.invariant-loop-line

@@ -1,6 +1,5 @@
 use Rattle.std.proofs.Common.{Bool, Ok, subst}
-use Rattle.lineage_log.specs.LogGrammar.{log_of}
-use Rattle.lineage_log.specs.LogReading.{TellsNext}
+use Rattle.lineage_log.proofs.Prelude.{log_of, TellsNext}
 use Rattle.lineage_log.proofs.LeftLemmas.{given_none, given_told}
 use Rattle.lineage_log.proofs.residents.reader_at_end.Goals as goal
 

@@ -1,7 +1,5 @@
 use Rattle.std.proofs.Common.{length}
-use Rattle.lineage_log.specs.LogGrammar.{log_of}
-use Rattle.lineage_log.specs.LogReading.{left_of}
-use Rattle.lineage_log.specs.Places.{place_of}
+use Rattle.lineage_log.proofs.Prelude.{log_of, left_of, place_of}
 use Rattle.lineage_log.proofs.LeftLemmas.{HasGiven}
 use Rattle.lineage_log.proofs.residents.reader_at_end.Given as goal
 

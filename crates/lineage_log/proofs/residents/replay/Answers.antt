@@ -1,9 +1,6 @@
 use Rattle.std.proofs.Common.{◌≡◌, ◌∙◌, List, ap}
+use Rattle.lineage_log.proofs.Prelude.{lines_of, reader_of, Resident, residents_from, replay_of, kept_genomes}
 use Rattle.std.proofs.lemmas.Result.{IfOk-weaker}
-use Rattle.lineage_log.specs.LogValues.{lines_of}
-use Rattle.lineage_log.specs.Readings.{reader_of}
-use Rattle.lineage_log.specs.Replay.{Resident, residents_from, replay_of}
-use Rattle.lineage_log.specs.Residents.{kept_genomes}
 use Rattle.lineage_log.proofs.ReplayLemmas.{leaves}
 use Rattle.lineage_log.proofs.residents.replay.Goals as goal
 

@@ -1,5 +1,5 @@
 use Rattle.std.proofs.Common.{◌≡◌, ◌∙◌, Some}
-use Rattle.log_lines.specs.Fields.{genome_of_word}
+use Rattle.log_lines.proofs.Prelude.{genome_of_word}
 use Rattle.log_lines.proofs.GenomeLemmas.{genome_given}
 use Rattle.log_lines.proofs.fields.genome.Goals as goal
 

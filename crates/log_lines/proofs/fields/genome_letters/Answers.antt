@@ -1,5 +1,5 @@
 use Rattle.std.proofs.Common.{◌≡◌, ◌∙◌, List, Option, IfOk, option_map, sym, subst}
-use Rattle.instruction_set.specs.declared.letter.Letter.{Letter}
+use Rattle.log_lines.proofs.Prelude.{Letter}
 use Rattle.log_lines.proofs.GenomeLemmas.{genome_each, genome_other}
 use Rattle.log_lines.proofs.fields.genome_letters.Goals as goal
 

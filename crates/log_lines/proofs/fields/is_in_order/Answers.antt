@@ -1,6 +1,5 @@
 use Rattle.std.proofs.Common.{◌≡◌, ◌<◌, ◌∷◌, ◌∙◌, [], List, length, true, refl, arith}
-use Rattle.mutations.specs.declared.change.Change.{Change}
-use Rattle.mutations.specs.RecordForm.{in_order}
+use Rattle.log_lines.proofs.Prelude.{Change, in_order}
 use Rattle.log_lines.proofs.fields.is_in_order.Goals as goal
 
 -- fewer than two changes are in order

@@ -1,5 +1,5 @@
 use Rattle.std.proofs.Common.{◌≡◌, length}
-use Rattle.mutations.specs.RecordForm.{in_order}
+use Rattle.log_lines.proofs.Prelude.{in_order}
 use Rattle.log_lines.proofs.fields.is_in_order.Given as goal
 
 abbrev pub invariant-loop-rest : goal.invariant-loop-rest

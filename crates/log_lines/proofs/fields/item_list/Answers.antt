@@ -1,9 +1,6 @@
 use Rattle.std.proofs.Common.{◌++◌, ◌∙◌, List, Some, ap, sym}
 use Rattle.std.specs.Prelude.{option_copied, option_map}
-use Rattle.mutations.specs.declared.change.Change.{Change}
-use Rattle.log_lines.specs.Fields.{each}
-use Rattle.log_lines.specs.Kinds.{read_change}
-use Rattle.log_lines.specs.Words.{pieces_of}
+use Rattle.log_lines.proofs.Prelude.{Change, each, read_change, pieces_of}
 use Rattle.log_lines.proofs.TimesLemmas.{each_first, each_stops, first_shorter, same_map}
 use Rattle.log_lines.proofs.WordLemmas.{split_some}
 use Rattle.log_lines.proofs.fields.item_list.Goals as goal

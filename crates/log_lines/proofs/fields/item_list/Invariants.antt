@@ -1,8 +1,6 @@
 use Rattle.std.proofs.Common.{◌≡◌, ◌++◌, length, Some}
 use Rattle.std.specs.Prelude.{option_copied, option_map}
-use Rattle.log_lines.specs.Fields.{each}
-use Rattle.log_lines.specs.Kinds.{read_change}
-use Rattle.log_lines.specs.Words.{pieces_of}
+use Rattle.log_lines.proofs.Prelude.{each, read_change, pieces_of}
 use Rattle.log_lines.proofs.fields.item_list.Given as goal
 
 abbrev pub invariant-loop-left : goal.invariant-loop-left

@@ -1,7 +1,5 @@
 use Rattle.std.proofs.Common.{◌≡◌, ◌<◌, ℕ, List, [], ◌∷◌, length, None, refl, arith}
-use Rattle.numerals.specs.Numeral.{number_of}
-use Rattle.log_lines.specs.Kinds.{read_lettered}
-use Rattle.log_lines.specs.Words.{ToChange}
+use Rattle.log_lines.proofs.Prelude.{number_of, read_lettered, ToChange}
 use Rattle.log_lines.proofs.fields.lettered.Goals as goal
 
 none_lettered : (make : ToChange) (rest : List ℕ) → length rest < 1 → None ≡ read_lettered make rest

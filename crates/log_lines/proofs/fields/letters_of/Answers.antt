@@ -1,8 +1,6 @@
 use Rattle.std.proofs.Common.{◌≡◌, ◌+◌, ◌<◌, ◌∷◌, ◌++◌, ◌∙◌, ℕ, List, length, get_or, drop, ap, sym, arith, add-one, drop-cons}
 use Rattle.std.specs.Prelude.{option_map}
-use Rattle.instruction_set.specs.declared.letter.Letter.{Letter}
-use Rattle.instruction_set.specs.Letter.{letter_of_byte}
-use Rattle.log_lines.specs.Fields.{each}
+use Rattle.log_lines.proofs.Prelude.{Letter, letter_of_byte, each}
 use Rattle.log_lines.proofs.TimesLemmas.{each_more, each_none}
 use Rattle.log_lines.proofs.fields.letters_of.Goals as goal
 

@@ -1,7 +1,6 @@
 use Rattle.std.proofs.Common.{◌≡◌, ◌+◌, ◌-◌, ◌≤◌, ◌++◌, drop, length, vec_len, vec_capacity}
 use Rattle.std.specs.Prelude.{option_map}
-use Rattle.instruction_set.specs.Letter.{letter_of_byte}
-use Rattle.log_lines.specs.Fields.{each}
+use Rattle.log_lines.proofs.Prelude.{letter_of_byte, each}
 use Rattle.log_lines.proofs.fields.letters_of.Given as goal
 
 abbrev pub invariant-loop-byte : goal.invariant-loop-byte

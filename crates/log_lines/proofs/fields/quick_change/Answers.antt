@@ -1,5 +1,5 @@
 use Rattle.std.proofs.Common.{arith, refl}
-use Rattle.mutations.specs.declared.change.Change.TheVariants.{Insert, Point}
+use Rattle.log_lines.proofs.Prelude.{Insert, Point}
 use Rattle.log_lines.proofs.ListedLemmas.{first_deletion, first_lettered}
 use Rattle.log_lines.proofs.fields.quick_change.Goals as goal
 

@@ -1,9 +1,6 @@
 use Rattle.std.proofs.Common.{ℕ, List, Option, Bor, ap}
 use Rattle.std.specs.Prelude.{option_copied, option_map}
-use Rattle.log_lines.specs.Forms.{count_form}
-use Rattle.log_lines.specs.Kinds.{large, small}
-use Rattle.log_lines.specs.Rows.{times, ◌◂◌}
-use Rattle.log_lines.specs.Words.{words_of}
+use Rattle.log_lines.proofs.Prelude.{count_form, large, small, times, ◌◂◌, words_of}
 use Rattle.log_lines.proofs.TimesLemmas.{both_read}
 use Rattle.log_lines.proofs.plain_lines.read_stats.Goals as goal
 

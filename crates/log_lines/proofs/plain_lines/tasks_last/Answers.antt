@@ -1,8 +1,6 @@
 use Rattle.std.proofs.Common.{◌≡◌, ◌∙◌, ◌<◌, ◌≤◌, ℕ, List, [], Option, Bor, length, take, sym, subst, arith}
 use Rattle.std.specs.Prelude.{option_copied}
-use Rattle.std.proofs.lemmas.List.{take_all, length-set}
-use Rattle.log_lines.specs.Kinds.{large}
-use Rattle.log_lines.specs.Words.{words_of}
+use Rattle.log_lines.proofs.Prelude.{take_all, length-set, large, words_of}
 use Rattle.log_lines.proofs.WordLemmas.{split_some}
 use Rattle.log_lines.proofs.TimesLemmas.{HasRead, front_more, read_more, read_all, read_too_many}
 use Rattle.log_lines.proofs.plain_lines.tasks_last.Goals as goal

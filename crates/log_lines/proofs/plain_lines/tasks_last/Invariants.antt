@@ -1,7 +1,6 @@
 use Rattle.std.proofs.Common.{◌≡◌, take, length}
 use Rattle.std.specs.Prelude.{option_copied}
-use Rattle.numerals.specs.Numeral.{number_of}
-use Rattle.log_lines.specs.Words.{words_of}
+use Rattle.log_lines.proofs.Prelude.{number_of, words_of}
 use Rattle.log_lines.proofs.TimesLemmas.{HasRead}
 use Rattle.log_lines.proofs.plain_lines.tasks_last.Given as goal
 

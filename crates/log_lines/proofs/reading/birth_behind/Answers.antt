@@ -1,7 +1,6 @@
-use Rattle.std.proofs.lemmas.Result.{IfOk-weaker}
 use Rattle.std.specs.Prelude.{option_copied}
+use Rattle.log_lines.proofs.Prelude.{IfOk-weaker, words_of}
 use Rattle.mutations.specs.BirthRecord.{written_in}
-use Rattle.log_lines.specs.Words.{words_of}
 use Rattle.log_lines.proofs.BeginLemmas.{Record, birth_none, birth_some}
 use Rattle.log_lines.proofs.reading.birth_behind.Goals as goal
 

@@ -1,6 +1,6 @@
 use Rattle.std.proofs.Common.{◌≡◌, List, Option, subst}
 use Rattle.std.specs.Prelude.{IfOk}
-use Rattle.mutations.specs.declared.change.Change.{Change}
+use Rattle.log_lines.proofs.Prelude.{Change}
 use Rattle.numerals.proofs.SpellingLemmas.{numbers_spell}
 use Rattle.log_lines.proofs.KindLaws.{changes_law}
 use Rattle.log_lines.proofs.RowLaws.{last_whole}

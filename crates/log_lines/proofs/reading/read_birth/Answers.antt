@@ -1,12 +1,6 @@
 use Rattle.std.proofs.Common.{◌≡◌, ◌≤◌, ◌∙◌, ◌-◌, ℕ, Bool, List, Option, Some, ap, drop, get_or, inl, inr, length, subst, sym, take, arith}
-use Rattle.std.specs.Bool.{then_some}
 use Rattle.std.specs.Prelude.{IfOk}
-use Rattle.std.proofs.lemmas.Bool.{cases_eq}
-use Rattle.std.proofs.lemmas.Result.{IfOk-weaker}
-use Rattle.log_lines.specs.Forms.{forms}
-use Rattle.log_lines.specs.Line.{IsNoBirth, Line, birth_values}
-use Rattle.log_lines.specs.LineReading.{line_of}
-use Rattle.log_lines.specs.Words.{words_of}
+use Rattle.log_lines.proofs.Prelude.{then_some, cases_eq, IfOk-weaker, forms, IsNoBirth, Line, birth_values, line_of, words_of}
 use Rattle.log_lines.proofs.FrontLemmas.{blank_mark, long_marked, marked, short_line}
 use Rattle.log_lines.proofs.MarkLemmas.{by_mark, no_birth}
 use Rattle.log_lines.proofs.reading.read_birth.Goals.{After-birth_behind, else-mark-eq66-via-else-mark-eq66, else-mark-eq66-via-then-mark-eq66+else-part-eq32}

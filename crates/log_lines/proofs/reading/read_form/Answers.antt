@@ -1,8 +1,6 @@
 use Rattle.std.proofs.Common.{◌≡◌, ◌∙◌, Option, arith, subst, option_map}
 use Rattle.std.specs.Prelude.{IfOk, option_copied}
-use Rattle.log_lines.specs.Forms.{forms}
-use Rattle.log_lines.specs.Line.{Line, line_values}
-use Rattle.log_lines.specs.Words.{words_of}
+use Rattle.log_lines.proofs.Prelude.{forms, Line, line_values, words_of}
 use Rattle.log_lines.proofs.MarkLemmas.{by_mark, is_plain}
 use Rattle.log_lines.proofs.reading.read_form.Goals as goal
 

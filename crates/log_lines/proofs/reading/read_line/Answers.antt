@@ -1,6 +1,6 @@
 use Rattle.std.proofs.Common.{◌≡◌, Option, subst, option_map}
 use Rattle.std.specs.Prelude.{IfOk}
-use Rattle.log_lines.specs.Line.{Line, line_values}
+use Rattle.log_lines.proofs.Prelude.{Line, line_values}
 use Rattle.log_lines.proofs.FrontLemmas.{blank_mark, long_marked, marked, short_line}
 use Rattle.log_lines.proofs.reading.read_line.Goals.{else-part-eq32-via-then-part-eq32+else-mark-ne32, else-part-eq32-via-else-part-eq32}
 use Rattle.log_lines.proofs.reading.read_line.Goals as goal

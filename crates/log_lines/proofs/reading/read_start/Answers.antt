@@ -1,7 +1,7 @@
 use Rattle.std.proofs.Common.{Some, None}
 use Rattle.std.specs.Prelude.{option_copied}
+use Rattle.log_lines.proofs.Prelude.{words_of}
 use Rattle.genome.specs.Genome.{letters}
-use Rattle.log_lines.specs.Words.{words_of}
 use Rattle.log_lines.proofs.BeginLemmas.{start_none, start_some}
 use Rattle.log_lines.proofs.reading.read_start.Goals as goal
 

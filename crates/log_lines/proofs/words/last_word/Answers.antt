@@ -1,8 +1,6 @@
-use Rattle.std.proofs.Common.{◌∙◌, ◌∷◌, ℕ, List, Option, Some, sym, ap}
-use Rattle.std.proofs.Common.{Bor}
+use Rattle.std.proofs.Common.{◌∙◌, ◌∷◌, ℕ, List, Option, Some, sym, ap, Bor}
 use Rattle.std.specs.Prelude.{option_copied}
-use Rattle.log_lines.specs.Rows.{read_last}
-use Rattle.log_lines.specs.Words.{words_of}
+use Rattle.log_lines.proofs.Prelude.{read_last, words_of}
 use Rattle.log_lines.proofs.WordLemmas.{last_more}
 use Rattle.log_lines.proofs.words.last_word.Goals as goal
 

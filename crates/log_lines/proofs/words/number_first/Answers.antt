@@ -1,7 +1,6 @@
 use Rattle.std.proofs.Common.{◌∙◌, List, ℕ, Option, Some, None, Bor, ap, sym}
 use Rattle.std.specs.Prelude.{option_copied}
-use Rattle.numerals.specs.Numeral.{number_of}
-use Rattle.log_lines.specs.Words.{after_word, read_first, words_of}
+use Rattle.log_lines.proofs.Prelude.{number_of, after_word, read_first, words_of}
 use Rattle.log_lines.proofs.FrontLemmas.{front_none, front_number, tail_is}
 use Rattle.log_lines.proofs.words.number_first.Goals as goal
 

@@ -1,7 +1,6 @@
 use Rattle.std.proofs.Common.{◌∙◌, List, ℕ, Option, Some, Bor, ap, sym}
 use Rattle.std.specs.Prelude.{option_copied}
-use Rattle.numerals.specs.Numeral.{number_of}
-use Rattle.log_lines.specs.Words.{words_of}
+use Rattle.log_lines.proofs.Prelude.{number_of, words_of}
 use Rattle.log_lines.proofs.TimesLemmas.{first_not_last}
 use Rattle.log_lines.proofs.WordLemmas.{split_some}
 use Rattle.log_lines.proofs.words.small_last.Goals as goal

@@ -1,8 +1,6 @@
 use Rattle.std.proofs.Common.{◌≡◌, ◌∙◌, ◌∷◌, ◌-◌, ◌+◌, List, ℕ, take, drop, length, ap, sym, arith, length-drop}
 use Rattle.std.specs.Prelude.{◌==◌}
-use Rattle.std.specs.List.{slice_split}
-use Rattle.std.proofs.lemmas.Bool.{eqb-true}
-use Rattle.std.proofs.lemmas.List.{take_all}
+use Rattle.log_lines.proofs.Prelude.{slice_split, eqb-true, take_all}
 use Rattle.log_lines.proofs.WordLemmas.{free_of, split_here, split_end}
 use Rattle.log_lines.proofs.words.split_at.Goals as goal
 

@@ -1,8 +1,6 @@
 use Rattle.std.proofs.Common.{[], get_or, ◌≡◌, ◌<◌, ◌∷◌, ℕ, List, Some, None, length, ap, ◌∙◌, sym, append_assoc, arith, cond, take}
 use Rattle.std.specs.Prelude.{option_copied, slice_get, ◌==◌}
-use Rattle.std.proofs.lemmas.Option.{slice_get-get_or}
-use Rattle.std.proofs.lemmas.Bool.Decides.{nat_tests}
-use Rattle.mutations.specs.declared.change.Change.{Change}
+use Rattle.log_lines.proofs.Prelude.{slice_get-get_or, nat_tests, Change}
 use Rattle.log_lines.proofs.KeptLemmas.{keeps_behind}
 use Rattle.log_lines.proofs.TextLemmas.{items_text, items_text_more}
 use Rattle.log_lines.proofs.writing.changes.Goals.{in-Some+in_ok-change, then-at-eq0, else-at-eq0, in_default}

@@ -1,6 +1,6 @@
 use Rattle.std.proofs.Common.{◌≡◌, ◌+◌, ◌-◌, ◌<◌, ◌∷◌, ◌++◌, List, [], ℕ, length, take, drop, decimal, set, arith, rules, append-nil, ap, ◌∙◌}
+use Rattle.log_lines.proofs.Prelude.{drop-set, take_all}
 use Rattle.std.proofs.lemmas.Fmt.{length-decimal-le}
-use Rattle.std.proofs.lemmas.List.{drop-set, take_all}
 use Rattle.log_lines.proofs.writing.write_number.Goals as goal
 
 pub write_digits-start-requires : goal.write_digits-start-requires

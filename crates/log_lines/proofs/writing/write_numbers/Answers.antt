@@ -1,5 +1,5 @@
 use Rattle.std.proofs.Common.{◌<◌, ◌∙◌, ℕ, length, take, decimal, append_assoc, arith}
-use Rattle.log_lines.specs.LineText.{numbers_text}
+use Rattle.log_lines.proofs.Prelude.{numbers_text}
 use Rattle.log_lines.proofs.KeptLemmas.{keeps_before}
 use Rattle.log_lines.proofs.TextLemmas.{words_text_more}
 use Rattle.log_lines.proofs.writing.write_numbers.Goals as goal

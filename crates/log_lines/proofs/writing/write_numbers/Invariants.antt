@@ -1,5 +1,5 @@
 use Rattle.std.proofs.Common.{◌≡◌, ◌++◌, take}
-use Rattle.log_lines.specs.LineText.{numbers_text}
+use Rattle.log_lines.proofs.Prelude.{numbers_text}
 use Rattle.log_lines.proofs.writing.write_numbers.Given as goal
 
 abbrev pub invariant-loop-number : goal.invariant-loop-number

@@ -1,6 +1,5 @@
 use Rattle.std.proofs.Common.{IfOk, subst, sym}
-use Rattle.world_config.specs.Values.{ConfigValues}
-use Rattle.logged_run.specs.Beginnings.{IsBeginning, IsNew}
+use Rattle.logged_run.proofs.Prelude.{ConfigValues, IsBeginning, IsNew}
 use Rattle.logged_run.proofs.beginning.begin.Goals as goal
 
 pub begin_published-requires : goal.begin_published-requires

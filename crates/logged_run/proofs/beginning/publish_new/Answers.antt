@@ -1,6 +1,5 @@
 use Rattle.std.proofs.Common.{◌∙◌, ap}
-use Rattle.world_config.specs.Shown.{values_of}
-use Rattle.world_core.specs.declared.picture.WorldPicture.{WorldPicture}
+use Rattle.logged_run.proofs.Prelude.{values_of, WorldPicture}
 use Rattle.logged_run.proofs.beginning.publish_new.Goals as goal
 
 pub returns-clause-config : goal.returns-clause-config

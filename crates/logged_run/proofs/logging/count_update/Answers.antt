@@ -1,5 +1,4 @@
-use Rattle.std.proofs.lemmas.Result.{err_from_is_err_and}
-use Rattle.written_texts.proofs.WriteLemmas.{stopped_same, writes_same}
+use Rattle.logged_run.proofs.Prelude.{err_from_is_err_and, stopped_same, writes_same}
 use Rattle.logged_run.proofs.SumLemmas.{sums_more, sums_small}
 use Rattle.logged_run.proofs.logging.count_update.Goals as goal
 

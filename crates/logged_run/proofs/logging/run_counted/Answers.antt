@@ -1,5 +1,5 @@
 use Rattle.std.proofs.Common.{◌∙◌, Err, ap, refl}
-use Rattle.written_texts.proofs.WriteLemmas.{never_fails}
+use Rattle.logged_run.proofs.Prelude.{never_fails}
 use Rattle.logged_run.proofs.logging.run_counted.Goals as goal
 
 pub unreachable-requires : goal.unreachable-requires

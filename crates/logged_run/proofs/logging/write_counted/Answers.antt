@@ -1,11 +1,6 @@
 use Rattle.std.proofs.Common.{◌∙◌, subst}
-use Rattle.std.proofs.lemmas.Result.{err_from_is_err_and}
-use Rattle.world_config.specs.Shown.{values_of}
-use Rattle.world_config.specs.Values.{ConfigValues}
-use Rattle.logged_run.specs.RunSums.{AreSumsOf}
-use Rattle.logged_run.specs.RunText.{run_text}
+use Rattle.logged_run.proofs.Prelude.{err_from_is_err_and, values_of, ConfigValues, AreSumsOf, run_text, nothing_written, stopped_same, writes_same}
 use Rattle.logged_run.proofs.RunLemmas.{first_stopped, last_written, updates_stopped}
-use Rattle.written_texts.proofs.WriteLemmas.{nothing_written, stopped_same, writes_same}
 use Rattle.logged_run.proofs.logging.write_counted.Goals as goal
 
 pub returns-in_err-world-clause-text : goal.returns-in_err-world-clause-text

@@ -1,5 +1,4 @@
-use Rattle.std.proofs.lemmas.Result.{err_from_is_err_and}
-use Rattle.written_texts.proofs.WriteLemmas.{stopped_same, writes_same}
+use Rattle.logged_run.proofs.Prelude.{err_from_is_err_and, stopped_same, writes_same}
 use Rattle.logged_run.proofs.logging.write_log.Goals as goal
 
 pub returns-in_err-world-clause-text : goal.returns-in_err-world-clause-text

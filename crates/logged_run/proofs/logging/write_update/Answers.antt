@@ -1,7 +1,5 @@
 use Rattle.std.proofs.Common.{◌≡◌, ◌+◌, ◌∙◌, ap, arith, length}
-use Rattle.std.proofs.lemmas.Result.{err_from_is_err_and}
-use Rattle.world_rules.specs.LogText.{update_text}
-use Rattle.written_texts.proofs.WriteLemmas.{nothing_written, put_ended}
+use Rattle.logged_run.proofs.Prelude.{err_from_is_err_and, update_text, nothing_written, put_ended}
 use Rattle.logged_run.proofs.logging.write_update.Goals as goal
 
 pub returns-in_err-next-clause-text : goal.returns-in_err-next-clause-text

@@ -1,10 +1,5 @@
 use Rattle.std.proofs.Common.{◌≡◌, ◌<◌, ◌+◌, ◌∙◌, Ok, ap, arith, refl, subst}
-use Rattle.std.proofs.lemmas.Result.{err_from_is_err_and}
-use Rattle.world_core.specs.WorldValue.{WorldValue}
-use Rattle.world_rules.specs.LogText.{updates_text}
-use Rattle.written_texts.specs.WrittenText.{WritesAll}
-use Rattle.written_texts.proofs.WriteLemmas.{wanting_after, writes_nothing, writes_same}
-use Rattle.logged_run.specs.RunSums.{AreSumsOf}
+use Rattle.logged_run.proofs.Prelude.{err_from_is_err_and, WorldValue, updates_text, WritesAll, wanting_after, writes_nothing, writes_same, AreSumsOf}
 use Rattle.logged_run.proofs.RunLemmas.{update_stopped, update_written}
 use Rattle.logged_run.proofs.SumLemmas.{sums_here, sums_none, sums_then}
 use Rattle.logged_run.proofs.logging.write_updates.Goals as goal

@@ -1,9 +1,6 @@
 -- The texts so far are written, the world has come so far, and the sums are those so far.
 use Rattle.std.proofs.Common.{Ok}
-use Rattle.world_rules.specs.LogText.{updates_text}
-use Rattle.written_texts.specs.WrittenText.{WritesAll}
-use Rattle.logged_run.specs.RunSums.{AreSumsOf}
-use Rattle.logged_run.specs.RunText.{IsWorldAt}
+use Rattle.logged_run.proofs.Prelude.{updates_text, WritesAll, AreSumsOf, IsWorldAt}
 use Rattle.logged_run.proofs.logging.write_updates.Given as goal
 
 abbrev pub invariant-loop : goal.invariant-loop

@@ -1,9 +1,6 @@
 use Rattle.std.proofs.Common.{subst, sym}
-use Rattle.std.proofs.lemmas.Result.{err_from_is_err_and}
-use Rattle.world_config.specs.Values.{ConfigValues}
-use Rattle.logged_run.specs.Publishing.{HasCome}
+use Rattle.logged_run.proofs.Prelude.{err_from_is_err_and, ConfigValues, HasCome, stopped_same, writes_same}
 use Rattle.logged_run.proofs.RunLemmas.{first_stopped, last_written, updates_stopped}
-use Rattle.written_texts.proofs.WriteLemmas.{stopped_same, writes_same}
 use Rattle.logged_run.proofs.publishing.publish_log.Goals as goal
 
 pub publish_updates-requires-clause-come : goal.publish_updates-requires-clause-come

@@ -1,6 +1,5 @@
 use Rattle.std.proofs.Common.{◌≡◌, ◌∙◌, ap}
-use Rattle.world_config.specs.Shown.{values_of}
-use Rattle.world_core.specs.declared.picture.WorldPicture.{WorldPicture}
+use Rattle.logged_run.proofs.Prelude.{values_of, WorldPicture}
 use Rattle.logged_run.proofs.PublishedLemmas.{may_follow, more_pictures}
 use Rattle.logged_run.proofs.publishing.publish_picture.Goals as goal
 

@@ -1,6 +1,5 @@
 use Rattle.std.proofs.Common.{refl}
-use Rattle.world_config.specs.Shown.{values_of}
-use Rattle.logged_run.specs.RunText.{run_text}
+use Rattle.logged_run.proofs.Prelude.{values_of, run_text}
 use Rattle.logged_run.proofs.publishing.publish_run.Goals as goal
 
 pub returns : goal.returns

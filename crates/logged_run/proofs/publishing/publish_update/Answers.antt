@@ -1,6 +1,5 @@
 use Rattle.std.proofs.Common.{refl}
-use Rattle.std.proofs.lemmas.Result.{err_from_is_err_and}
-use Rattle.written_texts.proofs.WriteLemmas.{stopped_same, wanting_after, writes_same}
+use Rattle.logged_run.proofs.Prelude.{err_from_is_err_and, stopped_same, wanting_after, writes_same}
 use Rattle.logged_run.proofs.PublishedLemmas.{come_to}
 use Rattle.logged_run.proofs.publishing.publish_update.Goals as goal
 

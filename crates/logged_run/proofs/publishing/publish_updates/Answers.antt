@@ -1,10 +1,5 @@
 use Rattle.std.proofs.Common.{◌≡◌, ◌<◌, ℕ, Ok, arith, subst}
-use Rattle.std.proofs.lemmas.Result.{err_from_is_err_and}
-use Rattle.world_rules.specs.LogText.{updates_text}
-use Rattle.written_texts.specs.WrittenText.{WritesAll}
-use Rattle.written_texts.proofs.WriteLemmas.{writes_same}
-use Rattle.logged_run.specs.declared.publishing.Progress.{Progress}
-use Rattle.logged_run.specs.Publishing.{HasCome}
+use Rattle.logged_run.proofs.Prelude.{err_from_is_err_and, updates_text, WritesAll, writes_same, Progress, HasCome}
 use Rattle.logged_run.proofs.PublishedLemmas.{come_again, come_more}
 use Rattle.logged_run.proofs.RunLemmas.{update_stopped, update_written}
 use Rattle.logged_run.proofs.publishing.publish_updates.Goals as goal

@@ -1,8 +1,6 @@
 -- The run has come so far, and the texts so far are written.
 use Rattle.std.proofs.Common.{Ok}
-use Rattle.world_rules.specs.LogText.{updates_text}
-use Rattle.written_texts.specs.WrittenText.{WritesAll}
-use Rattle.logged_run.specs.Publishing.{HasCome}
+use Rattle.logged_run.proofs.Prelude.{updates_text, WritesAll, HasCome}
 use Rattle.logged_run.proofs.publishing.publish_updates.Given as goal
 
 abbrev pub invariant-loop : goal.invariant-loop

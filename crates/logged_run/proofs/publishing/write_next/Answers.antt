@@ -1,7 +1,5 @@
 use Rattle.std.proofs.Common.{◌∙◌, ap}
-use Rattle.std.proofs.lemmas.Result.{err_from_is_err_and}
-use Rattle.world_core.specs.WorldValue.{WorldValue}
-use Rattle.written_texts.proofs.WriteLemmas.{stopped_same, wanting_after, writes_same}
+use Rattle.logged_run.proofs.Prelude.{err_from_is_err_and, WorldValue, stopped_same, wanting_after, writes_same}
 use Rattle.logged_run.proofs.publishing.write_next.Goals as goal
 
 pub returns-in_err-running-clause-text : goal.returns-in_err-running-clause-text

@@ -1,5 +1,5 @@
 use Rattle.std.proofs.Common.{refl}
-use Rattle.written_texts.proofs.WriteLemmas.{stopped_same, writes_same}
+use Rattle.logged_run.proofs.Prelude.{stopped_same, writes_same}
 use Rattle.logged_run.proofs.NewsLemmas.{line_as}
 use Rattle.logged_run.proofs.watched_run.end_watched.Goals as goal
 

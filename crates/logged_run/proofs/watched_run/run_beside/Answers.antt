@@ -1,4 +1,4 @@
-use Rattle.world_config.specs.Shown.{values_of}
+use Rattle.logged_run.proofs.Prelude.{values_of}
 use Rattle.logged_run.proofs.EndLemmas.{at_end, run_ended}
 use Rattle.logged_run.proofs.watched_run.run_beside.Goals as goal
 

@@ -1,8 +1,5 @@
 use Rattle.std.proofs.Common.{◌∙◌, ap, subst}
-use Rattle.world_config.specs.Shown.{values_of}
-use Rattle.world_config.specs.Values.{ConfigValues}
-use Rattle.written_texts.specs.SinkChanges.{change}
-use Rattle.logged_run.specs.WatchedRun.{RunsWatched}
+use Rattle.logged_run.proofs.Prelude.{values_of, ConfigValues, change, RunsWatched}
 use Rattle.logged_run.proofs.EndLemmas.{stopped_early}
 use Rattle.logged_run.proofs.watched_run.write_watched.Goals as goal
 

@@ -1,6 +1,5 @@
 use Rattle.std.proofs.Common.{◌+◌, List, Option, IfSome, subst}
-use Rattle.world_core.specs.declared.picture.WorldPicture.{WorldPicture}
-use Rattle.logged_run.specs.Watching.{ArePictures}
+use Rattle.logged_run.proofs.Prelude.{WorldPicture, ArePictures}
 use Rattle.logged_run.proofs.PublishedLemmas.{heard}
 use Rattle.logged_run.proofs.watching.hear_last.Goals as goal
 

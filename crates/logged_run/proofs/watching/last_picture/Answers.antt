@@ -1,6 +1,5 @@
 use Rattle.std.proofs.Common.{◌≡◌, ◌≤◌, ap, arith}
-use Rattle.world_config.specs.Shown.{values_of}
-use Rattle.world_core.specs.declared.picture.WorldPicture.{WorldPicture}
+use Rattle.logged_run.proofs.Prelude.{values_of, WorldPicture}
 use Rattle.logged_run.proofs.PublishedLemmas.{looked}
 use Rattle.logged_run.proofs.watching.last_picture.Goals.{In_ok-picture}
 use Rattle.logged_run.proofs.watching.last_picture.Goals as goal

@@ -1,8 +1,5 @@
 use Rattle.std.proofs.Common.{◌∙◌, ap}
-use Rattle.std.proofs.lemmas.Result.{err_from_is_err_and}
-use Rattle.world_config.specs.Shown.{values_of}
-use Rattle.world_core.specs.declared.picture.WorldPicture.{WorldPicture}
-use Rattle.written_texts.proofs.WriteLemmas.{nothing_written, stopped_same, writes_same}
+use Rattle.logged_run.proofs.Prelude.{err_from_is_err_and, values_of, WorldPicture, nothing_written, stopped_same, writes_same}
 use Rattle.logged_run.proofs.NewsLemmas.{line_as}
 use Rattle.logged_run.proofs.watching.write_last_picture.Goals as goal
 

@@ -1,6 +1,5 @@
 use Rattle.std.proofs.Common.{◌∙◌, Some, ap, sym}
-use Rattle.std.proofs.lemmas.Result.{err_from_is_err_and}
-use Rattle.world_config.specs.Shown.{values_of}
+use Rattle.logged_run.proofs.Prelude.{err_from_is_err_and, values_of}
 use Rattle.logged_run.proofs.WatcherLemmas.{look_ended, look_wanting}
 use Rattle.logged_run.proofs.watching.write_look.Goals as goal
 

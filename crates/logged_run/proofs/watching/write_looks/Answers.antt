@@ -1,6 +1,5 @@
 use Rattle.std.proofs.Common.{◌≤◌, ◌+◌, arith}
-use Rattle.std.proofs.lemmas.Result.{err_from_is_err_and}
-use Rattle.world_config.specs.Shown.{values_of}
+use Rattle.logged_run.proofs.Prelude.{err_from_is_err_and, values_of}
 use Rattle.logged_run.proofs.WatcherLemmas.{looks_begun, looks_done, looks_within}
 use Rattle.logged_run.proofs.watching.write_looks.Goals as goal
 

@@ -1,6 +1,5 @@
 -- So many looks were made, and the lines of what was seen are written.
-use Rattle.world_config.specs.Shown.{values_of}
-use Rattle.logged_run.specs.Watching.{HasLooked}
+use Rattle.logged_run.proofs.Prelude.{values_of, HasLooked}
 use Rattle.logged_run.proofs.watching.write_looks.Given as goal
 
 abbrev pub invariant-loop : goal.invariant-loop

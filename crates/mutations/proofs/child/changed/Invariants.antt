@@ -1,6 +1,5 @@
 use Rattle.std.proofs.Common.{◌≡◌, ◌+◌, drop}
-use Rattle.genome.specs.Genome.{IsGenome}
-use Rattle.mutations.specs.Change.{text_after}
+use Rattle.mutations.proofs.Prelude.{IsGenome, text_after}
 use Rattle.mutations.proofs.child.changed.Given as goal
 
 abbrev pub invariant-loop-before : goal.invariant-loop-before

@@ -1,8 +1,5 @@
 use Rattle.std.proofs.Common.{◌≡◌, ◌∙◌, sym, ap, subst, arith, Ok, List, Option, IsNone, ◌↔◌}
-use Rattle.std.proofs.lemmas.Grind.{common_steps}
-use Rattle.genome.specs.Genome.{letters}
-use Rattle.instruction_set.specs.declared.letter.Letter.{Letter}
-use Rattle.mutations.specs.BirthRecord.{written_in, written_of}
+use Rattle.mutations.proofs.Prelude.{common_steps, letters, Letter, written_in, written_of}
 use Rattle.mutations.proofs.BirthLemmas.{child_of-made, written_of-none}
 use Rattle.mutations.proofs.dividing.divide_errors.Goals as goal
 

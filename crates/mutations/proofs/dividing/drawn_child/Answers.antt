@@ -1,7 +1,5 @@
 use Rattle.std.proofs.Common.{ap, arith}
-use Rattle.std.proofs.lemmas.Grind.{common_steps}
-use Rattle.mutations.specs.Rates.{numbers_of, range_of}
-use Rattle.random_streams.specs.RandomStream.{Stream}
+use Rattle.mutations.proofs.Prelude.{common_steps, numbers_of, range_of, Stream}
 use Rattle.mutations.proofs.BirthLemmas.{drawn_by_divide-passed}
 use Rattle.mutations.proofs.WordLemmas.{drawn_by_divide-words}
 use Rattle.mutations.proofs.dividing.drawn_child.Goals as goal

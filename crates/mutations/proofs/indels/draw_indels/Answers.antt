@@ -1,6 +1,5 @@
 use Rattle.std.proofs.Common.{◌∙◌, ap, ℕ}
-use Rattle.mutations.specs.Indels.{test_at}
-use Rattle.mutations.specs.Rates.{numbers_of, range_of}
+use Rattle.mutations.proofs.Prelude.{test_at, numbers_of, range_of}
 use Rattle.mutations.proofs.IndelPasses.{indels-passed}
 use Rattle.mutations.proofs.indels.draw_indels.Goals as goal
 

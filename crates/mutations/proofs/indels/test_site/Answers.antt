@@ -1,6 +1,5 @@
 use Rattle.std.proofs.Common.{arith, refl, ◌+◌, length}
-use Rattle.std.proofs.lemmas.Grind.{common_steps}
-use Rattle.mutations.specs.declared.indels.Indel.TheVariants.{Deletion}
+use Rattle.mutations.proofs.Prelude.{common_steps, Deletion}
 use Rattle.mutations.proofs.IndelPasses.{Passed-site}
 use Rattle.mutations.proofs.indels.test_site.Goals as goal
 

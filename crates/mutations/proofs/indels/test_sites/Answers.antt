@@ -1,5 +1,5 @@
 use Rattle.std.proofs.Common.{◌≡◌, ◌+◌, arith, [], drop, length-drop}
-use Rattle.std.proofs.lemmas.Grind.{common_steps}
+use Rattle.mutations.proofs.Prelude.{common_steps}
 use Rattle.mutations.proofs.IndelPasses.{IndelsLeft-step, IndelsLeft-end}
 use Rattle.mutations.proofs.indels.test_sites.Goals as goal
 

@@ -1,7 +1,5 @@
 use Rattle.std.proofs.Common.{◌+◌, ◌-◌, ◌*◌, ◌≤◌, drop, length}
-use Rattle.random_streams.specs.RandomStream.{word_of}
-use Rattle.mutations.specs.Indels.{indels_from, test_range}
-use Rattle.mutations.specs.Pass.{Fits}
+use Rattle.mutations.proofs.Prelude.{word_of, indels_from, test_range, Fits}
 use Rattle.mutations.proofs.IndelPasses.{IndelsLeft}
 use Rattle.mutations.proofs.indels.test_sites.Given as goal
 

@@ -1,8 +1,6 @@
 use Rattle.std.proofs.Common.{refl, sym, ap₂, ◌∙◌, ◌+◌, List, [], ◌++◌, drop, append-nil, arith}
+use Rattle.mutations.proofs.Prelude.{IsGenome, Letter, points_from}
 use Rattle.std.proofs.lemmas.List.{at_drop_all}
-use Rattle.genome.specs.Genome.{IsGenome}
-use Rattle.instruction_set.specs.declared.letter.Letter.{Letter}
-use Rattle.mutations.specs.DivideErrors.{points_from}
 use Rattle.mutations.proofs.ChangeLemmas.{drop-here}
 use Rattle.mutations.proofs.PointLemmas.{points-make}
 use Rattle.mutations.proofs.site_points.points.Goals as goal

@@ -1,5 +1,5 @@
 use Rattle.std.proofs.Common.{◌≡◌, ◌++◌, drop}
-use Rattle.mutations.specs.DivideErrors.{points_from}
+use Rattle.mutations.proofs.Prelude.{points_from}
 use Rattle.mutations.proofs.site_points.points.Given as goal
 
 abbrev pub invariant-loop-at : goal.invariant-loop-at

@@ -1,6 +1,5 @@
 use Rattle.std.proofs.Common.{◌≡◌, ◌+◌, ◌*◌, ◌≤◌, ◌++◌, take, drop}
-use Rattle.random_streams.specs.RandomStream.{word_of}
-use Rattle.mutations.specs.DivideErrors.{site_text, after_sites}
+use Rattle.mutations.proofs.Prelude.{word_of, site_text, after_sites}
 use Rattle.mutations.proofs.site_points.test_sites.Given as goal
 
 abbrev pub invariant-loop-letter : goal.invariant-loop-letter

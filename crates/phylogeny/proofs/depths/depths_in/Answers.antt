@@ -1,13 +1,8 @@
 use Rattle.std.proofs.Common.{ℕ, Option, ◌≡◌, ◌<◌, ◌++◌, ◌∷◌, [], List, length, map, append-nil, sym, ap, ◌∙◌, arith, ◌-◌}
-use Rattle.std.proofs.lemmas.List.{drop_all}
-use Rattle.std.proofs.lemmas.Option.{get_or_from_slice_get, slice_get_within}
-use Rattle.phylogeny.specs.CommonAncestor.{depth_at, depths_of, founding_ancestor_of}
-use Rattle.phylogeny.specs.declared.depths.Root.{Root}
-use Rattle.phylogeny.specs.Slots.{living_from, pedigree_with}
+use Rattle.phylogeny.proofs.Prelude.{drop_all, get_or_from_slice_get, slice_get_within, depth_at, depths_of, founding_ancestor_of, ancestors_of, Root, living_from, pedigree_with}
 use Rattle.phylogeny.proofs.SlotLemmas.{mapped_with, mapped_without}
 use Rattle.phylogeny.proofs.depths.depths_in.Goals.{in-Some+in_ok-push, in_default}
 use Rattle.phylogeny.proofs.depths.depths_in.Goals as goal
-use Rattle.phylogeny.specs.Pedigree.{ancestors_of}
 
 pub index-requires : goal.index-requires
 index-requires c =

@@ -1,6 +1,5 @@
 use Rattle.std.proofs.Common.{◌≡◌, ◌++◌, drop, map}
-use Rattle.phylogeny.specs.CommonAncestor.{depth_at}
-use Rattle.phylogeny.specs.Slots.{living_from, pedigree_with}
+use Rattle.phylogeny.proofs.Prelude.{depth_at, living_from, pedigree_with}
 use Rattle.phylogeny.proofs.depths.depths_in.Given as goal
 
 -- the depths so far, and those of the cells that are left

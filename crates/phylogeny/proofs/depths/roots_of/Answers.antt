@@ -1,8 +1,5 @@
 use Rattle.std.proofs.Common.{◌≡◌, ℕ, ◌+◌, ◌<◌, [], ◌∷◌, ap, sym, ◌∙◌, length, length-append, arith}
-use Rattle.std.proofs.lemmas.Option.{get_or_from_slice_get}
-use Rattle.phylogeny.specs.declared.depths.Root.{Root}
-use Rattle.phylogeny.specs.Slots.{parent_at}
-use Rattle.lineage_log.proofs.AncestorLemmas.{line}
+use Rattle.phylogeny.proofs.Prelude.{get_or_from_slice_get, Root, parent_at, line}
 use Rattle.phylogeny.proofs.AncestorLemmas.{child_root, depth_bound, depth_in, founder_in, founder_root}
 use Rattle.phylogeny.proofs.ListLemmas.{each_pushed}
 use Rattle.phylogeny.proofs.depths.roots_of.Goals.{in-Some, in-None}

@@ -1,7 +1,6 @@
 use Rattle.std.proofs.Common.{◌≡◌, ℕ, ◌<◌, Some, length}
 use Rattle.std.specs.Prelude.{slice_get}
-use Rattle.phylogeny.specs.Slots.{parent_at}
-use Rattle.lineage_log.proofs.AncestorLemmas.{line}
+use Rattle.phylogeny.proofs.Prelude.{parent_at, line}
 use Rattle.phylogeny.proofs.AncestorLemmas.{depth_in, founder_in}
 use Rattle.phylogeny.proofs.depths.roots_of.Given as goal
 

@@ -1,8 +1,5 @@
 use Rattle.std.proofs.Common.{[], subst}
-use Rattle.phylogeny.specs.CommonAncestor.{most_recent_common_ancestor}
-use Rattle.phylogeny.specs.LatestCommon.{TellsLatestCommon}
-use Rattle.phylogeny.specs.Pedigree.{Pedigree}
-use Rattle.phylogeny.specs.Slots.{parents_in, standing_after}
+use Rattle.phylogeny.proofs.Prelude.{most_recent_common_ancestor, TellsLatestCommon, Pedigree, parents_in, standing_after}
 use Rattle.phylogeny.proofs.CommonLemmas.{tells_latest}
 use Rattle.phylogeny.proofs.LogLemmas.{good_tells, pedigree_is}
 use Rattle.phylogeny.proofs.laws.common_ancestors_are_latest.Goals as goal

@@ -1,9 +1,7 @@
 use Rattle.std.proofs.Common.{◌≡◌, ℕ, [], List, Option, Result, Ok, Err, ◌∙◌, subst, sym}
 use Rattle.std.specs.Prelude.{IfOk}
-use Rattle.log_lines.specs.Line.{Line}
+use Rattle.phylogeny.proofs.Prelude.{Line, pedigree_of, IsPedigree, parents_in, pedigree_with, standing_after}
 use Rattle.phylogeny.specs.declared.pedigree.Pedigree as code
-use Rattle.phylogeny.specs.LogPedigree.{pedigree_of}
-use Rattle.phylogeny.specs.Slots.{IsPedigree, parents_in, pedigree_with, standing_after}
 use Rattle.phylogeny.proofs.LogLemmas.{IsToldBy, good_tells, pedigree_is}
 use Rattle.phylogeny.proofs.pedigree.read_pedigree.Goals as goal
 

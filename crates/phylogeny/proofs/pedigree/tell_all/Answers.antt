@@ -1,5 +1,5 @@
 use Rattle.std.proofs.Common.{◌<◌, ◌∙◌, length, arith}
-use Rattle.log_lines.specs.Line.{line_values}
+use Rattle.phylogeny.proofs.Prelude.{line_values}
 use Rattle.phylogeny.proofs.ListLemmas.{not_past}
 use Rattle.phylogeny.proofs.SlotLemmas.{parents_more, standing_more}
 use Rattle.phylogeny.proofs.pedigree.tell_all.Goals.{in-Some+in_ok-tell, in_default}

@@ -1,5 +1,5 @@
 use Rattle.std.proofs.Common.{◌≡◌, ◌++◌, [], drop}
-use Rattle.phylogeny.specs.Slots.{parents_in, standing_after}
+use Rattle.phylogeny.proofs.Prelude.{parents_in, standing_after}
 use Rattle.phylogeny.proofs.pedigree.tell_all.Given as goal
 
 -- the lines that are left make of what was told what all lines make of nothing

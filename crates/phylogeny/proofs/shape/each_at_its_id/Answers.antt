@@ -1,6 +1,5 @@
 use Rattle.std.proofs.Common.{◌≡◌, ◌+◌, ◌<◌, ℕ, List, get_or, length, set, subst, sym, ap, ◌∙◌, arith}
-use Rattle.std.proofs.Math.ListN.{length-set}
-use Rattle.std.proofs.lemmas.List.{get_or_default}
+use Rattle.phylogeny.proofs.Prelude.{length-set, get_or_default}
 use Rattle.phylogeny.proofs.SlotLemmas.{AreCounted, counted_with, counted_without, here_few}
 use Rattle.phylogeny.proofs.shape.each_at_its_id.Goals.{in-Some, in_default}
 use Rattle.phylogeny.proofs.shape.each_at_its_id.Goals as goal

@@ -1,9 +1,6 @@
 use Rattle.std.proofs.Common.{◌≡◌, ℕ, ◌+◌, ◌-◌, ◌<◌, cond, eqb, List, Option, Some, length, get_or, sym, ap, refl, ◌∙◌, arith}
 use Rattle.std.specs.Prelude.{is_some, nat_le}
-use Rattle.std.specs.Option.{option_or}
-use Rattle.std.proofs.lemmas.List.{get_or_default}
-use Rattle.std.proofs.lemmas.List.Sums.{count_by-le-length}
-use Rattle.phylogeny.specs.declared.shape.Shape.{Shape}
+use Rattle.phylogeny.proofs.Prelude.{option_or, get_or_default, count_by-le-length, Shape}
 use Rattle.phylogeny.proofs.CountLemmas.{bit}
 use Rattle.phylogeny.proofs.ListLemmas.{get_replicated}
 use Rattle.phylogeny.proofs.SlotLemmas.{living_count}

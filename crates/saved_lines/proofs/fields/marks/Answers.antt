@@ -1,7 +1,5 @@
 use Rattle.std.proofs.Common.{◌≡◌, ◌∙◌, ◌<◌, Bool, List, Some, length, ap, arith}
-use Rattle.std.proofs.lemmas.Bool.Decides.{nat_tests}
-use Rattle.log_lines.specs.Fields.{each}
-use Rattle.saved_lines.specs.SavedFields.{mark_of}
+use Rattle.saved_lines.proofs.Prelude.{nat_tests, each, mark_of}
 use Rattle.saved_lines.proofs.EachLemmas.{marks_made}
 use Rattle.saved_lines.proofs.fields.marks.Goals as goal
 

@@ -1,8 +1,7 @@
 -- The marks so far are read, and there is room for the rest.
 use Rattle.std.proofs.Common.{◌≡◌, ◌+◌, ◌-◌, ◌≤◌, ◌++◌, drop, length, vec_len, vec_capacity}
 use Rattle.std.specs.Prelude.{option_map}
-use Rattle.log_lines.specs.Fields.{each}
-use Rattle.saved_lines.specs.SavedFields.{mark_of}
+use Rattle.saved_lines.proofs.Prelude.{each, mark_of}
 use Rattle.saved_lines.proofs.fields.marks_of.Given as goal
 
 abbrev pub invariant-loop-byte : goal.invariant-loop-byte

@@ -1,8 +1,5 @@
 use Rattle.std.proofs.Common.{◌≡◌, ◌∙◌, ◌+◌, ◌<◌, ◌∷◌, ◌++◌, [], List, Some, true, drop, get_or, length, length-append, inl, inr, sym, ap, arith}
-use Rattle.std.specs.List.{list_all}
-use Rattle.instruction_set.specs.declared.letter.Letter.{Letter}
-use Rattle.instruction_set.specs.Letter.{letter_of_byte}
-use Rattle.label_search.specs.Template.{is_nop}
+use Rattle.saved_lines.proofs.Prelude.{list_all, Letter, letter_of_byte, is_nop}
 use Rattle.saved_lines.proofs.NopLemmas.{all_more, nop_on, nops_behind, noted, too_few_or_many}
 use Rattle.saved_lines.proofs.fields.nops_of.Goals.{then-count-eq0-via-then-count-eq0, then-count-eq0-via-else-count-eq0+then-count-gt-LONGEST_TEMPLATE}
 use Rattle.saved_lines.proofs.fields.nops_of.Goals as goal

@@ -1,8 +1,6 @@
 -- The letters so far are nops, and what is left gives the others.
 use Rattle.std.proofs.Common.{◌≡◌, drop, length, true}
-use Rattle.std.specs.List.{list_all}
-use Rattle.label_search.specs.Template.{is_nop}
-use Rattle.saved_lines.specs.SavedFields.{some_nops}
+use Rattle.saved_lines.proofs.Prelude.{list_all, is_nop, some_nops}
 use Rattle.saved_lines.proofs.NopLemmas.{nops_behind}
 use Rattle.saved_lines.proofs.fields.nops_of.Given as goal
 

@@ -1,5 +1,5 @@
 use Rattle.std.proofs.Common.{arith}
-use Rattle.saved_lines.specs.SavedTables.{any_flag, head_ranges}
+use Rattle.saved_lines.proofs.Prelude.{any_flag, head_ranges}
 use Rattle.saved_lines.proofs.RangeLemmas.{bound_at}
 use Rattle.saved_lines.proofs.reading.head_of.Goals as goal
 

@@ -1,8 +1,6 @@
 use Rattle.std.proofs.Common.{◌≡◌, ◌∙◌, ◌<◌, ◌≤◌, ℕ, List, [], Option, None, Bor, take, drop, length, sym, ap, arith}
 use Rattle.std.specs.Prelude.{option_copied}
-use Rattle.log_lines.specs.Words.{words_of}
-use Rattle.saved_lines.specs.SavedRows.{read_within}
-use Rattle.saved_lines.specs.SavedTables.{any_flag}
+use Rattle.saved_lines.proofs.Prelude.{words_of, read_within, any_flag}
 use Rattle.saved_lines.proofs.ItemLemmas.{all_within, behind, number_ends}
 use Rattle.saved_lines.proofs.reading.numbers_first.Goals as goal
 

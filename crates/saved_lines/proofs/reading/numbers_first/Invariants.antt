@@ -1,8 +1,7 @@
 -- The numbers so far are read, and what is left gives the others.
 use Rattle.std.proofs.Common.{◌≡◌, take, drop, length}
 use Rattle.std.specs.Prelude.{option_copied}
-use Rattle.log_lines.specs.Words.{words_of}
-use Rattle.saved_lines.specs.SavedRows.{read_within}
+use Rattle.saved_lines.proofs.Prelude.{words_of, read_within}
 use Rattle.saved_lines.proofs.ItemLemmas.{behind}
 use Rattle.saved_lines.proofs.reading.numbers_first.Given as goal
 

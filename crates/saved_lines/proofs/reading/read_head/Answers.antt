@@ -1,9 +1,7 @@
 use Rattle.std.proofs.Common.{◌∙◌, Option, Some, Bor, List, ℕ, ap, sym}
 use Rattle.std.specs.Prelude.{option_copied}
-use Rattle.log_lines.specs.Words.{words_of}
+use Rattle.saved_lines.proofs.Prelude.{words_of, read_within, head_ranges}
 use Rattle.log_lines.proofs.WordLemmas.{split_some}
-use Rattle.saved_lines.specs.SavedRows.{read_within}
-use Rattle.saved_lines.specs.SavedTables.{head_ranges}
 use Rattle.saved_lines.proofs.ItemLemmas.{more_left}
 use Rattle.saved_lines.proofs.reading.read_head.Goals as goal
 

@@ -1,7 +1,6 @@
 use Rattle.std.proofs.Common.{None, Some, ap}
 use Rattle.std.specs.Prelude.{option_copied, option_map}
-use Rattle.log_lines.specs.Words.{words_of}
-use Rattle.saved_lines.specs.SavedReading.{machine_of}
+use Rattle.saved_lines.proofs.Prelude.{words_of, machine_of}
 use Rattle.saved_lines.proofs.MachineLemmas.{Begins, Texts, machine_read, no_second}
 use Rattle.saved_lines.proofs.reading.read_machine.Goals.{In-Some-signed_first}
 use Rattle.saved_lines.proofs.reading.read_machine.Goals as goal

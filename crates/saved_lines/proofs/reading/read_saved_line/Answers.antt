@@ -1,9 +1,6 @@
 use Rattle.std.proofs.Common.{◌≡◌, ◌∙◌, ℕ, List, Option, length, subst, sym, ap, arith}
 use Rattle.std.specs.Prelude.{IfOk, option_copied, option_map}
-use Rattle.log_lines.specs.Words.{words_of}
-use Rattle.saved_lines.specs.SavedLines.{values_of_line}
-use Rattle.saved_lines.specs.SavedReading.{read_form}
-use Rattle.saved_lines.specs.SavedText.{SavedLine}
+use Rattle.saved_lines.proofs.Prelude.{words_of, values_of_line, read_form, SavedLine}
 use Rattle.saved_lines.proofs.FormLemmas.{line_is, one_byte, other_mark}
 use Rattle.saved_lines.proofs.reading.read_saved_line.Goals as goal
 

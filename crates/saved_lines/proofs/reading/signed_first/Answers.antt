@@ -1,11 +1,6 @@
 use Rattle.std.proofs.Common.{◌≡◌, ◌∙◌, ◌+◌, ◌-◌, ◌<◌, ◌∷◌, ℕ, ℤ, List, Option, Bor, Some, set, take, length, length-set, sym, ap, arith}
 use Rattle.std.specs.Prelude.{option_copied}
-use Rattle.std.specs.Int.{w32, cast_signed, cast_unsigned}
-use Rattle.std.proofs.lemmas.Int.{to_z-of_z}
-use Rattle.log_lines.specs.Words.{words_of}
-use Rattle.log_lines.proofs.TimesLemmas.{front_more}
-use Rattle.saved_lines.specs.SavedFields.{read_signed}
-use Rattle.saved_lines.specs.SavedRows.{read_several}
+use Rattle.saved_lines.proofs.Prelude.{w32, cast_signed, cast_unsigned, to_z-of_z, words_of, front_more, read_signed, read_several}
 use Rattle.saved_lines.proofs.ItemLemmas.{behind, item_on}
 use Rattle.saved_lines.proofs.SignedLemmas.{signed_fits}
 use Rattle.saved_lines.proofs.reading.signed_first.Goals as goal

@@ -1,9 +1,7 @@
 -- The numbers so far are read, and what is left gives the others.
 use Rattle.std.proofs.Common.{◌≡◌, ◌-◌, take, length}
 use Rattle.std.specs.Prelude.{option_copied}
-use Rattle.log_lines.specs.Words.{words_of}
-use Rattle.saved_lines.specs.SavedFields.{signed}
-use Rattle.saved_lines.specs.SavedRows.{read_several}
+use Rattle.saved_lines.proofs.Prelude.{words_of, signed, read_several}
 use Rattle.saved_lines.proofs.ItemLemmas.{behind}
 use Rattle.saved_lines.proofs.reading.signed_first.Given as goal
 

@@ -1,6 +1,6 @@
 -- The digits so far are appended, and there is room for the rest.
 use Rattle.std.proofs.Common.{◌≡◌, ◌++◌, ◌+◌, ◌-◌, ◌≤◌, map, take, length, vec_len, vec_capacity}
-use Rattle.saved_lines.specs.SavedText.{digit_of}
+use Rattle.saved_lines.proofs.Prelude.{digit_of}
 use Rattle.saved_lines.proofs.writing.digits.Given as goal
 
 abbrev pub invariant-loop-place : goal.invariant-loop-place

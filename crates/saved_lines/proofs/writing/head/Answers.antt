@@ -1,5 +1,5 @@
 use Rattle.std.proofs.Common.{◌∙◌, ◌∷◌, ◌++◌, [], ℕ, List, map, decimal, append_assoc, ap}
-use Rattle.log_lines.specs.LineText.{words_text}
+use Rattle.saved_lines.proofs.Prelude.{words_text}
 use Rattle.saved_lines.proofs.TextLemmas.{OnOk_then}
 use Rattle.saved_lines.proofs.writing.head.Goals as goal
 

@@ -1,9 +1,6 @@
 use Rattle.std.proofs.Common.{◌<◌, pos, length, append_assoc, arith, rules, get_or}
 use Rattle.std.specs.Prelude.{FitsSigned}
-use Rattle.std.specs.Fmt.{signed_decimal}
-use Rattle.std.specs.Int.{w32}
-use Rattle.std.proofs.lemmas.Int.{to_z-of_z}
-use Rattle.log_lines.proofs.TextLemmas.{words_text_more}
+use Rattle.saved_lines.proofs.Prelude.{signed_decimal, w32, to_z-of_z, words_text_more}
 use Rattle.saved_lines.proofs.writing.integers.Goals as goal
 
 pub loop-number-preserved : goal.loop-number-preserved

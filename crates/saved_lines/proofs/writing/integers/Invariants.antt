@@ -1,6 +1,5 @@
 use Rattle.std.proofs.Common.{◌≡◌, ◌++◌, take}
-use Rattle.log_lines.specs.LineText.{words_text}
-use Rattle.saved_lines.specs.SavedText.{signed_words}
+use Rattle.saved_lines.proofs.Prelude.{words_text, signed_words}
 use Rattle.saved_lines.proofs.writing.integers.Given as goal
 
 abbrev pub invariant-loop-number : goal.invariant-loop-number

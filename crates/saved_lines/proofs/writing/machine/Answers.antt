@@ -1,6 +1,5 @@
 use Rattle.std.proofs.Common.{◌∙◌, ◌∷◌, ◌++◌, [], ℕ, List, map, decimal, append_assoc, sym, ap}
-use Rattle.log_lines.specs.LineText.{words_text}
-use Rattle.saved_lines.specs.SavedText.{machine_words, nops_text, signed_words}
+use Rattle.saved_lines.proofs.Prelude.{words_text, machine_words, nops_text, signed_words}
 use Rattle.saved_lines.proofs.TextLemmas.{OnOk_then, four_texts, image_texts, machine_line}
 use Rattle.saved_lines.proofs.writing.machine.Goals as goal
 

@@ -1,9 +1,6 @@
 use Rattle.std.proofs.Common.{get_or, ◌≡◌, ◌+◌, ◌<◌, ◌∷◌, ◌++◌, [], ℕ, List, map, take, Some, None, length, ap, ◌∙◌, sym, append_assoc, arith}
 use Rattle.std.specs.Prelude.{option_copied, slice_get}
-use Rattle.std.proofs.lemmas.List.{take_more, map-append}
-use Rattle.std.proofs.lemmas.Option.{slice_get-get_or, slice_get_within, get_or_from_slice_get}
-use Rattle.instruction_set.specs.declared.letter.Letter.{Letter}
-use Rattle.instruction_set.specs.Letter.{byte_of}
+use Rattle.saved_lines.proofs.Prelude.{take_more, map-append, slice_get-get_or, slice_get_within, get_or_from_slice_get, Letter, byte_of}
 use Rattle.saved_lines.proofs.writing.nop_letters.Goals.{in-Some+in_ok-write_byte, in_default}
 use Rattle.saved_lines.proofs.writing.nop_letters.Goals as goal
 

@@ -1,5 +1,5 @@
 use Rattle.std.proofs.Common.{◌≡◌, ◌++◌, take, map}
-use Rattle.instruction_set.specs.Letter.{byte_of}
+use Rattle.saved_lines.proofs.Prelude.{byte_of}
 use Rattle.saved_lines.proofs.writing.nop_letters.Given as goal
 
 abbrev pub invariant-loop-at : goal.invariant-loop-at

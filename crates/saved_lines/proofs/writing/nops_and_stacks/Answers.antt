@@ -1,6 +1,5 @@
 use Rattle.std.proofs.Common.{◌∙◌, ◌++◌, ℕ, List, ap}
-use Rattle.log_lines.specs.LineText.{words_text}
-use Rattle.saved_lines.specs.SavedText.{nops_text, signed_words}
+use Rattle.saved_lines.proofs.Prelude.{words_text, nops_text, signed_words}
 use Rattle.saved_lines.proofs.TextLemmas.{OnOk_then, stacks_made}
 use Rattle.saved_lines.proofs.writing.nops_and_stacks.Goals as goal
 

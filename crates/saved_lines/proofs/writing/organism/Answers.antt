@@ -1,11 +1,7 @@
 use Rattle.std.proofs.Common.{◌∙◌, ◌∷◌, ◌++◌, [], ℕ, List, map, decimal, ap}
-use Rattle.instruction_set.specs.declared.letter.Letter.{Letter}
-use Rattle.instruction_set.specs.Letter.{byte_of}
+use Rattle.saved_lines.proofs.Prelude.{Letter, byte_of, words_text, organism_numbers, organism_text, organism_values}
 use Rattle.genome.specs.Genome as genome_spec
 use Rattle.genome.specs.declared.genome.Genome.{Genome}
-use Rattle.log_lines.specs.LineText.{words_text}
-use Rattle.saved_lines.specs.SavedText.{organism_numbers, organism_text}
-use Rattle.saved_lines.specs.SavedValues.{organism_values}
 use Rattle.saved_lines.proofs.TextLemmas.{OnOk_then, organism_made}
 use Rattle.saved_lines.proofs.writing.organism.Goals as goal
 

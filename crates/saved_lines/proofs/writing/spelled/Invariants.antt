@@ -1,6 +1,6 @@
 -- The letters so far are appended, and there is room for the rest.
 use Rattle.std.proofs.Common.{◌≡◌, ◌++◌, ◌+◌, ◌-◌, ◌≤◌, map, take, length, vec_len, vec_capacity}
-use Rattle.instruction_set.specs.Letter.{byte_of}
+use Rattle.saved_lines.proofs.Prelude.{byte_of}
 use Rattle.saved_lines.proofs.writing.spelled.Given as goal
 
 abbrev pub invariant-loop-letter : goal.invariant-loop-letter

@@ -1,5 +1,5 @@
 use Rattle.std.proofs.Common.{subst}
-use Rattle.saved_worlds.specs.ReadsSaved.{ReadsSaved}
+use Rattle.saved_worlds.proofs.Prelude.{ReadsSaved}
 use Rattle.saved_worlds.proofs.ReadsSavedLemmas.{reads_one_saved, saved_is_read}
 use Rattle.saved_worlds.proofs.laws.one_answer.Goals as goal
 

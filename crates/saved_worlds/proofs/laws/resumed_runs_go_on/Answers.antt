@@ -1,4 +1,4 @@
-use Rattle.world_config.specs.Shown.{values_of}
+use Rattle.saved_worlds.proofs.Prelude.{values_of}
 use Rattle.saved_worlds.proofs.Quiet.{happens_in_time}
 use Rattle.saved_worlds.proofs.Resumes.{state_goes_on, log_goes_on}
 use Rattle.saved_worlds.proofs.laws.resumed_runs_go_on.Goals as goal

@@ -1,7 +1,5 @@
 use Rattle.std.proofs.Common.{◌+◌, ◌*◌}
-use Rattle.world_config.specs.Shown.{values_of}
-use Rattle.world_rules.specs.WorldRun.{world_after}
-use Rattle.world_laws.specs.Ranges.{StandInRange}
+use Rattle.saved_worlds.proofs.Prelude.{values_of, world_after, StandInRange}
 use Rattle.saved_worlds.proofs.Runs.{run_fits, run_valid}
 use Rattle.saved_worlds.proofs.laws.runs_can_go_on.Goals as goal
 

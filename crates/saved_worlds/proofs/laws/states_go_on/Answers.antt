@@ -1,4 +1,4 @@
-use Rattle.world_config.specs.Shown.{values_of}
+use Rattle.saved_worlds.proofs.Prelude.{values_of}
 use Rattle.saved_worlds.proofs.Quiet.{happens_in_time}
 use Rattle.saved_worlds.proofs.Resumes.{next_state_is, next_text_is}
 use Rattle.saved_worlds.proofs.laws.states_go_on.Goals as goal

@@ -1,13 +1,5 @@
 use Rattle.std.proofs.Common.{◌≢◌, refl, ℤ, Bool, true, false, Option}
-use Rattle.instruction_set.specs.declared.letter.Letter.{Letter}
-use Rattle.instruction_set.specs.declared.letter.Letter.TheVariants.{MovHead, HAlloc, HDivide, Io}
-use Rattle.virtual_cpu.specs.declared.heads.Head.{Head}
-use Rattle.virtual_cpu.specs.declared.heads.Head.TheVariants.{Ip, Read, Write}
-use Rattle.virtual_cpu.specs.Allocation.{can_allocate}
-use Rattle.virtual_cpu.specs.Effects.{allocating_if, effect_of, moving}
-use Rattle.virtual_cpu.specs.HeadEffects.{head, after_mov_head}
-use Rattle.virtual_cpu.specs.Machine.{Machine}
-use Rattle.virtual_cpu.specs.Step.{TellsNothing}
+use Rattle.virtual_cpu.proofs.Prelude.{Letter, MovHead, HAlloc, HDivide, Io, Head, Ip, Read, Write, can_allocate, allocating_if, effect_of, moving, head, after_mov_head, Machine, TellsNothing}
 use Rattle.virtual_cpu.proofs.laws.few_letters_tell.Goals as goal
 
 moved : (which : Head) (m : Machine) → TellsNothing (moving which m).1

@@ -1,5 +1,4 @@
-use Rattle.virtual_cpu.specs.Machine.{letter_under_ip, with_ip_marked}
-use Rattle.virtual_cpu.specs.Step.{step}
+use Rattle.virtual_cpu.proofs.Prelude.{letter_under_ip, with_ip_marked, step}
 use Rattle.virtual_cpu.proofs.MachineLemmas.{marked}
 use Rattle.virtual_cpu.proofs.WordLemmas.{fresh-words, effect-words}
 use Rattle.virtual_cpu.proofs.laws.machines_hold_words.Goals as goal

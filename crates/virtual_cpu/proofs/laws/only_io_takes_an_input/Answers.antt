@@ -1,8 +1,5 @@
 use Rattle.std.proofs.Common.{◌≡◌, ◌≢◌, refl, ℤ, Option}
-use Rattle.instruction_set.specs.declared.letter.Letter.{Letter}
-use Rattle.instruction_set.specs.declared.letter.Letter.TheVariants.{Io}
-use Rattle.virtual_cpu.specs.Machine.{Machine}
-use Rattle.virtual_cpu.specs.Effects.{effect_of}
+use Rattle.virtual_cpu.proofs.Prelude.{Letter, Io, Machine, effect_of}
 use Rattle.virtual_cpu.proofs.laws.only_io_takes_an_input.Goals as goal
 
 no-input : (letter : Letter) (m : Machine) (input other : ℤ) (copy : Option Letter) → letter ≢ Io

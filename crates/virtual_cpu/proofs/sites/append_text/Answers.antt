@@ -1,7 +1,5 @@
 use Rattle.std.proofs.Common.{◌∙◌, arith, append_assoc}
-use Rattle.std.proofs.lemmas.List.{map_more}
-use Rattle.instruction_set.specs.declared.letter.Letter.TheVariants.{NopA}
-use Rattle.virtual_cpu.specs.SiteLists.{fresh_site}
+use Rattle.virtual_cpu.proofs.Prelude.{map_more, NopA, fresh_site}
 use Rattle.virtual_cpu.proofs.sites.append_text.Goals as goal
 
 pub loop-letter-preserved : goal.loop-letter-preserved

@@ -1,6 +1,6 @@
 use Rattle.std.proofs.Common.{◌≡◌, ◌+◌, ◌++◌, map, take}
 use Rattle.std.specs.Prelude.{vec_len, vec_capacity}
-use Rattle.virtual_cpu.specs.SiteLists.{fresh_site}
+use Rattle.virtual_cpu.proofs.Prelude.{fresh_site}
 use Rattle.virtual_cpu.proofs.sites.append_text.Given as goal
 
 -- the sites so far

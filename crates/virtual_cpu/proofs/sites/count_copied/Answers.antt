@@ -1,7 +1,6 @@
 use Rattle.std.proofs.Common.{◌∙◌, ap, arith}
 use Rattle.std.specs.Prelude.{count_by}
-use Rattle.std.proofs.lemmas.List.{take_all}
-use Rattle.label_search.specs.Site.{Site}
+use Rattle.virtual_cpu.proofs.Prelude.{take_all, Site}
 use Rattle.virtual_cpu.proofs.SiteLemmas.{counted}
 use Rattle.virtual_cpu.proofs.sites.count_copied.Goals as goal
 

@@ -1,6 +1,6 @@
 use Rattle.std.proofs.Common.{◌≡◌, ◌≤◌, take}
 use Rattle.std.specs.Prelude.{count_by}
-use Rattle.label_search.specs.Site.{Site}
+use Rattle.virtual_cpu.proofs.Prelude.{Site}
 use Rattle.virtual_cpu.proofs.sites.count_copied.Given as goal
 
 -- the count so far

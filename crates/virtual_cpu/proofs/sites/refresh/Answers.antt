@@ -1,8 +1,6 @@
 use Rattle.std.proofs.Common.{◌≡◌, ◌<◌, arith, length, get_or}
-use Rattle.std.proofs.lemmas.Grind.{common_steps}
+use Rattle.virtual_cpu.proofs.Prelude.{common_steps, Site, fresh_site}
 use Rattle.std.proofs.lemmas.List.Edits.{map_over_more}
-use Rattle.label_search.specs.Site.{Site}
-use Rattle.virtual_cpu.specs.SiteLists.{fresh_site}
 use Rattle.virtual_cpu.proofs.sites.refresh.Goals as goal
 
 pub loop-at-preserved : goal.loop-at-preserved

@@ -1,7 +1,6 @@
 use Rattle.std.proofs.Common.{◌≡◌, ◌++◌, map, take, drop}
 use Rattle.std.specs.Prelude.{vec_len, vec_capacity}
-use Rattle.label_search.specs.Site.{Site}
-use Rattle.virtual_cpu.specs.SiteLists.{fresh_site}
+use Rattle.virtual_cpu.proofs.Prelude.{Site, fresh_site}
 use Rattle.virtual_cpu.proofs.sites.refresh.Given as goal
 
 -- the sites so far are fresh

@@ -1,6 +1,5 @@
 use Rattle.std.proofs.Common.{◌∙◌, ap, arith, map}
-use Rattle.std.proofs.lemmas.List.{take_all}
-use Rattle.virtual_cpu.specs.SiteLists.{letter_by}
+use Rattle.virtual_cpu.proofs.Prelude.{take_all, letter_by}
 use Rattle.virtual_cpu.proofs.sites.text_in.Goals as goal
 
 pub returns : goal.returns

@@ -1,6 +1,6 @@
 use Rattle.std.proofs.Common.{◌≡◌, length, map, take}
 use Rattle.std.specs.Prelude.{vec_len, vec_capacity}
-use Rattle.virtual_cpu.specs.SiteLists.{letter_by}
+use Rattle.virtual_cpu.proofs.Prelude.{letter_by}
 use Rattle.virtual_cpu.proofs.sites.text_in.Given as goal
 
 -- the letters so far

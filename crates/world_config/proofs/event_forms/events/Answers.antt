@@ -1,7 +1,5 @@
 use Rattle.std.proofs.Common.{option_map, refl, sym, ap, ◌∙◌, arith}
-use Rattle.std.proofs.lemmas.List.{drop_all, map-append}
-use Rattle.world_config.specs.Events.{event_value, event_values}
-use Rattle.world_config.specs.Members.{event_refusal, frame_value}
+use Rattle.world_config.proofs.Prelude.{drop_all, map-append, event_value, event_values, event_refusal, frame_value}
 use Rattle.world_config.proofs.MemberLemmas.{events_of-ended, events_of-kept, events_of-stopped}
 use Rattle.world_config.proofs.event_forms.events.Goals as goal
 

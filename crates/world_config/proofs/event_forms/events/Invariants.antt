@@ -1,8 +1,5 @@
 use Rattle.std.proofs.Common.{◌≡◌, ◌+◌, ◌≤◌, length, drop, vec_len, vec_capacity}
-use Rattle.toml.specs.View.{items_view}
-use Rattle.world_config.specs.Events.{event_values}
-use Rattle.world_config.specs.EventForms.{events_from, events_of}
-use Rattle.world_config.specs.Members.{frame_value}
+use Rattle.world_config.proofs.Prelude.{items_view, event_values, frame_value, events_from, events_of}
 use Rattle.world_config.proofs.MemberLemmas.{resumed}
 use Rattle.world_config.proofs.event_forms.events.Given as goal
 

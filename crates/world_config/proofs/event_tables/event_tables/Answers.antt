@@ -1,6 +1,5 @@
 use Rattle.std.proofs.Common.{◌∙◌, ap, arith}
-use Rattle.toml.specs.Data.{table}
-use Rattle.toml.proofs.Views.{view-Table}
+use Rattle.world_config.proofs.Prelude.{table, view-Table}
 use Rattle.world_config.proofs.TableLemmas.{items_view-more}
 use Rattle.world_config.proofs.event_tables.event_tables.Goals as goal
 

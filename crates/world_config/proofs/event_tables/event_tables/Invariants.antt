@@ -1,7 +1,5 @@
 use Rattle.std.proofs.Common.{◌≡◌, ◌≤◌, map, take, length, vec_len, vec_capacity}
-use Rattle.toml.specs.View.{items_view}
-use Rattle.world_config.specs.Events.{event_value}
-use Rattle.world_config.specs.EventTables.{items_for}
+use Rattle.world_config.proofs.Prelude.{items_view, event_value, items_for}
 use Rattle.world_config.proofs.event_tables.event_tables.Given as goal
 
 abbrev pub invariant-loop-event : goal.invariant-loop-event

@@ -1,5 +1,5 @@
 use Rattle.std.proofs.Common.{◌≡◌, map, take, string_bytes}
-use Rattle.instruction_set.specs.Letter.{byte_of}
+use Rattle.world_config.proofs.Prelude.{byte_of}
 use Rattle.world_config.proofs.event_tables.letters_of.Given as goal
 
 abbrev pub invariant-loop-letter : goal.invariant-loop-letter

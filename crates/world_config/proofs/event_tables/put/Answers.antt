@@ -1,6 +1,5 @@
 use Rattle.std.proofs.Common.{◌∙◌, ap}
-use Rattle.toml.specs.View.{table_view, view, members_view}
-use Rattle.world_config.specs.EventTables.{insert_member}
+use Rattle.world_config.proofs.Prelude.{table_view, view, members_view, insert_member}
 use Rattle.world_config.proofs.TableLemmas.{members_view-insert_entry}
 use Rattle.world_config.proofs.event_tables.put.Goals as goal
 

@@ -1,5 +1,5 @@
 use Rattle.std.proofs.Common.{◌≡◌, ◌≤◌, take, length, vec_len, vec_capacity}
-use Rattle.world_config.specs.Events.{event_values}
+use Rattle.world_config.proofs.Prelude.{event_values}
 use Rattle.world_config.proofs.events.copy_of.Given as goal
 
 abbrev pub invariant-loop-event : goal.invariant-loop-event

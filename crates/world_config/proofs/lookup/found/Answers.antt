@@ -1,4 +1,4 @@
-use Rattle.toml.proofs.Views.{table_get}
+use Rattle.world_config.proofs.Prelude.{table_get}
 use Rattle.world_config.proofs.lookup.found.Goals as goal
 
 pub returns : goal.returns

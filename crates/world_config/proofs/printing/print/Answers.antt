@@ -1,10 +1,6 @@
 use Rattle.std.proofs.Common.{◌≡◌, ◌∙◌, ap, ◌≤◌, Some, string_bytes}
-use Rattle.std.proofs.lemmas.Str.{IsUtf8-string_bytes, is_utf8-from_IsUtf8}
-use Rattle.toml.specs.Data.{members_depth}
+use Rattle.world_config.proofs.Prelude.{IsUtf8-string_bytes, is_utf8-from_IsUtf8, members_depth, table_view, members_for, values_of}
 use Rattle.toml.specs.Parse.{parse_document}
-use Rattle.toml.specs.View.{table_view}
-use Rattle.world_config.specs.Printing.{members_for}
-use Rattle.world_config.specs.Shown.{values_of}
 use Rattle.world_config.proofs.ReadBackLemmas.{config_in-members, members_depth-for}
 use Rattle.world_config.proofs.printing.print.Goals as goal
 

@@ -1,9 +1,5 @@
 use Rattle.std.proofs.Common.{◌∙◌, sym}
-use Rattle.std.proofs.lemmas.List.{at_drop_more}
-use Rattle.toml.specs.View.{table_view}
-use Rattle.world_config.specs.KeyTable.{keys}
-use Rattle.world_config.specs.Printing.{with_keys}
-use Rattle.world_config.specs.Shown.{values_of}
+use Rattle.world_config.proofs.Prelude.{at_drop_more, table_view, keys, with_keys, values_of}
 use Rattle.world_config.proofs.printing.table_of.Goals as goal
 
 pub loop-key-preserved : goal.loop-key-preserved

@@ -1,8 +1,5 @@
 use Rattle.std.proofs.Common.{◌≡◌, drop}
-use Rattle.toml.specs.View.{table_view}
-use Rattle.world_config.specs.KeyTable.{keys}
-use Rattle.world_config.specs.Printing.{members_for, with_keys}
-use Rattle.world_config.specs.Shown.{values_of}
+use Rattle.world_config.proofs.Prelude.{table_view, keys, members_for, with_keys, values_of}
 use Rattle.world_config.proofs.printing.table_of.Given as goal
 
 abbrev pub invariant-loop-key : goal.invariant-loop-key

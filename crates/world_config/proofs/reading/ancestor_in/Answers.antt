@@ -1,5 +1,4 @@
-use Rattle.std.proofs.lemmas.Result.{err_from_is_err_and}
-use Rattle.world_config.specs.declared.key.Key.TheVariants.{Ancestor}
+use Rattle.world_config.proofs.Prelude.{err_from_is_err_and, Ancestor}
 use Rattle.world_config.proofs.reading.ancestor_in.Goals as goal
 
 pub returns-in_err-text-clause-refused : goal.returns-in_err-text-clause-refused

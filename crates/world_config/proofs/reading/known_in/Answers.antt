@@ -1,8 +1,5 @@
 use Rattle.std.proofs.Common.{◌∙◌, ap, Ok}
-use Rattle.std.proofs.lemmas.Result.{err_from_is_err_and}
-use Rattle.toml.specs.View.{items_view, table_view}
-use Rattle.world_config.specs.Events.{event_values}
-use Rattle.world_config.specs.Groups.{numbers_frame}
+use Rattle.world_config.proofs.Prelude.{err_from_is_err_and, items_view, table_view, event_values, numbers_frame}
 use Rattle.world_config.proofs.EventLemmas.{AreEvents-read}
 use Rattle.world_config.proofs.RefusalLemmas.{accepted_values, genome_at-ancestor}
 use Rattle.world_config.proofs.RefusalLemmas.{item_count_of_view}

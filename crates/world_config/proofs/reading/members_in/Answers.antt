@@ -1,5 +1,5 @@
 use Rattle.std.proofs.Common.{length, arith}
-use Rattle.world_config.specs.declared.key.Key.TheVariants.{Event}
+use Rattle.world_config.proofs.Prelude.{Event}
 use Rattle.world_config.proofs.KindLemmas.{unless_within-none}
 use Rattle.world_config.proofs.RefusalLemmas.{item_count_of_view}
 use Rattle.world_config.proofs.reading.members_in.Goals as goal

@@ -1,25 +1,8 @@
 use Rattle.std.proofs.Common.{◌≡◌, ◌∙◌, ap, get_or, subst, sym, ◌+◌, ◌++◌, [], ◌∷◌, List, length, map, take, fold, arith, rules}
+use Rattle.world_core.proofs.Prelude.{scan, into_iter_items, into_iter_len, into_iter_steps, length-map, length_push, take_all, fold_more, get_or-zip, length-zip, YieldsList, YieldsList-from_zip, zips, Placing, lines_text, line_text, values_of, birth_line, Scene, Delivery, after_births, placings_of, turns_of, with_newborn, IsDelivery, genomes_ever, scene_in, delivery_in, Birth}
 use Rattle.std.specs.Iterator.Adapters.{zip_first, zip_second}
-use Rattle.std.specs.List.{scan}
-use Rattle.std.specs.Vec.Iter.{into_iter_items, into_iter_len, into_iter_steps}
-use Rattle.std.proofs.lemmas.List.{length-map, length_push, take_all}
-use Rattle.std.proofs.lemmas.List.Sums.{fold_more}
-use Rattle.std.proofs.lemmas.Slice.Zip.{get_or-zip, length-zip}
-use Rattle.std.proofs.lemmas.Iterator.{YieldsList, YieldsList-from_zip, zips}
 use Rattle.std.proofs.lemmas.Iterator.Adapters.{YieldsList-from_vec}
 use Rattle.std.proofs.lemmas.Iterator.Consumers.{YieldsList-turn, YieldsList-end}
-use Rattle.birth_board.specs.declared.placing.Placing.{Placing}
-use Rattle.lineage_log.specs.LogGrammar.{lines_text}
-use Rattle.log_lines.specs.LineText.{line_text}
-use Rattle.world_config.specs.Shown.{values_of}
-use Rattle.world_rules.specs.LogText.{birth_line}
-use Rattle.world_rules.specs.Scene.{Scene}
-use Rattle.world_rules.specs.Update.{Delivery, after_births, placings_of, turns_of, with_newborn}
-use Rattle.world_core.specs.Bounds.{IsDelivery}
-use Rattle.world_core.specs.Genotypes.{genomes_ever}
-use Rattle.world_core.specs.Lived.{delivery_in}
-use Rattle.world_core.specs.Scenes.{scene_in}
-use Rattle.world_core.specs.declared.ids.Birth.{Birth}
 use Rattle.world_core.proofs.BirthLemmas.{genomes-beside, placed-genomes, yields-made}
 use Rattle.world_core.proofs.ScanLemmas.{lines-step}
 use Rattle.world_core.proofs.births.place_births.Goals.{After-into_iter-birth-iterator}

@@ -1,11 +1,5 @@
 use Rattle.std.proofs.Common.{◌≡◌, ◌+◌, ◌++◌, fold, take, length, map}
-use Rattle.std.specs.List.{scan}
-use Rattle.lineage_log.specs.LogGrammar.{lines_text}
-use Rattle.world_config.specs.Shown.{values_of}
-use Rattle.world_rules.specs.LogText.{birth_line}
-use Rattle.world_rules.specs.Update.{turns_of, with_newborn}
-use Rattle.world_core.specs.Lived.{delivery_in}
-use Rattle.world_core.specs.Scenes.{scene_in}
+use Rattle.world_core.proofs.Prelude.{scan, lines_text, values_of, birth_line, turns_of, with_newborn, delivery_in, scene_in}
 use Rattle.world_core.proofs.births.place_births.Given as goal
 
 -- the newborns so far stand in their cells and are told

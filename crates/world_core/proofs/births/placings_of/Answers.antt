@@ -1,17 +1,8 @@
 use Rattle.std.proofs.Common.{◌≡◌, ◌∙◌, ◌<◌, ◌*◌, ℕ, length, sym, arith, ap}
-use Rattle.std.proofs.lemmas.List.{length-map}
-use Rattle.std.proofs.lemmas.List.Elements.{All-map}
+use Rattle.world_core.proofs.Prelude.{length-map, All-map, values_of, IfOk-weaker, placing_round_at, Delivery, placings_of, id_of, ids_of, IsDelivery, delivery_in, SceneValue, scene_in}
 use Rattle.birth_board.specs.declared.placing_round.PlacingRound.{PlacingRound}
 use Rattle.birth_board.specs.Torus.{TorusNumbers}
-use Rattle.world_config.specs.Shown.{values_of}
-use Rattle.std.proofs.lemmas.Result.{IfOk-weaker}
 use Rattle.birth_board.specs.Placement.{placements_of}
-use Rattle.world_rules.specs.Settings.{placing_round_at}
-use Rattle.world_rules.specs.Update.{Delivery, placings_of}
-use Rattle.world_rules.specs.World.{id_of, ids_of}
-use Rattle.world_core.specs.Bounds.{IsDelivery}
-use Rattle.world_core.specs.Lived.{delivery_in}
-use Rattle.world_core.specs.Scenes.{SceneValue, scene_in}
 use Rattle.world_core.proofs.BirthOrderLemmas.{All-unmap, map-both}
 use Rattle.world_core.proofs.births.placings_of.Goals as goal
 

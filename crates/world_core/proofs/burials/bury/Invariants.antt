@@ -1,6 +1,5 @@
 use Rattle.std.proofs.Common.{◌≡◌, ◌++◌, map, take}
-use Rattle.lineage_log.specs.LogGrammar.{lines_text}
-use Rattle.world_core.specs.Lived.{departure_line}
+use Rattle.world_core.proofs.Prelude.{lines_text, departure_line}
 use Rattle.world_core.proofs.burials.bury.Given as goal
 
 -- the dead so far are among those of the update, and told

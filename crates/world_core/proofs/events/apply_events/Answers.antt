@@ -1,6 +1,5 @@
 use Rattle.std.proofs.Common.{◌∙◌, refl, ap, ◌<◌, length, get_or, eq-eqb, arith}
-use Rattle.std.proofs.lemmas.Bool.{ne_eqb}
-use Rattle.world_core.specs.Scenes.{SceneValue, scene_in}
+use Rattle.world_core.proofs.Prelude.{ne_eqb, SceneValue, scene_in}
 use Rattle.world_core.proofs.GrowLemmas.{Grows_on, Grows_same}
 use Rattle.world_core.proofs.EventLemmas.{way-start, way-past, way-on, event-can_happen}
 use Rattle.world_core.proofs.events.apply_events.Goals.{then-event-update+in_ok-apply_event, else-event-update}

@@ -1,5 +1,5 @@
 use Rattle.std.proofs.Common.{◌≡◌, ◌+◌, ◌≤◌, length}
-use Rattle.world_core.specs.Scenes.{Grows, scene_in}
+use Rattle.world_core.proofs.Prelude.{Grows, scene_in}
 use Rattle.world_core.proofs.EventLemmas.{IsOnTheWay}
 use Rattle.world_core.proofs.events.apply_events.Given as goal
 

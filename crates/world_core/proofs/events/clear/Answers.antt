@@ -1,11 +1,5 @@
 use Rattle.std.proofs.Common.{◌≡◌, ◌∙◌, ap, sym, ◌+◌, ◌-◌, ◌<◌, ◌≤◌, length, get_or, take, arith}
-use Rattle.std.proofs.lemmas.List.{take_all}
-use Rattle.std.proofs.lemmas.List.FromFn.{length-range_with_len, get_or-range_with_len}
-use Rattle.std.proofs.lemmas.List.Sums.{fold_more}
-use Rattle.log_lines.specs.LineText.{line_text}
-use Rattle.world_rules.specs.LogText.{cleared_line}
-use Rattle.world_rules.specs.Scene.{cells_from, with_death, with_deaths}
-use Rattle.world_core.specs.Scenes.{scene_in}
+use Rattle.world_core.proofs.Prelude.{take_all, length-range_with_len, get_or-range_with_len, fold_more, line_text, cleared_line, cells_from, with_death, with_deaths, scene_in}
 use Rattle.world_core.proofs.ScanLemmas.{told-step}
 use Rattle.world_core.proofs.events.clear.Goals as goal
 

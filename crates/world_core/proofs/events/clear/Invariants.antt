@@ -1,9 +1,5 @@
 use Rattle.std.proofs.Common.{◌≡◌, ◌-◌, ◌++◌, take, length}
-use Rattle.lineage_log.specs.LogGrammar.{lines_text}
-use Rattle.std.specs.List.{scan, filter_map}
-use Rattle.world_rules.specs.LogText.{cleared_line}
-use Rattle.world_rules.specs.Scene.{cells_from, with_death, with_deaths}
-use Rattle.world_core.specs.Scenes.{scene_in}
+use Rattle.world_core.proofs.Prelude.{lines_text, scan, filter_map, cleared_line, cells_from, with_death, with_deaths, scene_in}
 use Rattle.world_core.proofs.events.clear.Given as goal
 
 -- who stands in the cells so far is dead and told

@@ -1,6 +1,5 @@
 use Rattle.std.proofs.Common.{◌∙◌, ap, length, refl}
-use Rattle.genome.specs.Genome.{letters}
-use Rattle.world_rules.specs.Scene.{Scene}
+use Rattle.world_core.proofs.Prelude.{letters, Scene}
 use Rattle.world_core.proofs.ComingLemmas.{newcomer-many, newcomer-size}
 use Rattle.world_core.proofs.GrowLemmas.{Grows_founder, newcomer-enrolled}
 use Rattle.world_core.proofs.events.inject.Goals as goal

@@ -1,16 +1,5 @@
 use Rattle.std.proofs.Common.{◌≡◌, ◌*◌, ◌∙◌, [], ap, length, None, refl, subst, sym}
-use Rattle.std.proofs.lemmas.List.{length-replicate}
-use Rattle.genome.specs.Genome.{letters}
-use Rattle.genotype_bank.specs.BankHistory.{HasEachOnce}
-use Rattle.lineage_log.specs.Links.{Link}
-use Rattle.organism.specs.OrganismState.{OrganismState}
-use Rattle.world_config.specs.Shown.{values_of}
-use Rattle.world_rules.specs.Scene.{Scene, next_id, with_newcomer}
-use Rattle.world_rules.specs.Update.{world_of}
-use Rattle.world_rules.specs.World.{founder_link, founder_of}
-use Rattle.world_core.specs.Everyone.{EveryoneValue}
-use Rattle.world_core.specs.Genotypes.{genomes_ever}
-use Rattle.world_core.specs.Scenes.{SceneValue, scene_in}
+use Rattle.world_core.proofs.Prelude.{length-replicate, letters, HasEachOnce, Link, OrganismState, values_of, Scene, next_id, with_newcomer, founder_link, founder_of, world_of, EveryoneValue, genomes_ever, SceneValue, scene_in}
 use Rattle.world_core.proofs.ComingLemmas.{empty_scene, first_world_is, newcomer-many, newcomer-size, nobody_gone}
 use Rattle.world_core.proofs.GrowLemmas.{Grows_founder, newcomer-enrolled}
 use Rattle.world_core.proofs.founding.first_scene.Given as given

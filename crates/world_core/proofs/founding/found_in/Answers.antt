@@ -1,13 +1,5 @@
 use Rattle.std.proofs.Common.{◌≡◌, ◌∙◌, ap, arith, length, subst, sym}
-use Rattle.std.proofs.lemmas.Result.{on_ok_weaker}
-use Rattle.genome.specs.Genome.{letters}
-use Rattle.genotype_bank.specs.BankHistory.{with_genome}
-use Rattle.lineage_log.specs.Links.{Link}
-use Rattle.world_config.specs.Shown.{values_of}
-use Rattle.world_rules.specs.Scene.{next_id}
-use Rattle.world_rules.specs.World.{founder_link, founder_of}
-use Rattle.world_core.specs.Bounds.{CanStand}
-use Rattle.world_core.specs.Scenes.{SceneValue, scene_in, with_occupant}
+use Rattle.world_core.proofs.Prelude.{on_ok_weaker, letters, with_genome, Link, values_of, next_id, founder_link, founder_of, CanStand, SceneValue, scene_in, with_occupant}
 use Rattle.world_core.proofs.ComingLemmas.{enrolled, found_is, founder-stands, newcomer_is}
 use Rattle.world_core.proofs.founding.found_in.Given as given
 use Rattle.world_core.proofs.founding.found_in.Goals.{In_ok-organism}

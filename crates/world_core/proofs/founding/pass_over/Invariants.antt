@@ -1,5 +1,5 @@
 use Rattle.std.proofs.Common.{◌≡◌}
-use Rattle.random_streams.specs.RandomStream.{after}
+use Rattle.world_core.proofs.Prelude.{after}
 use Rattle.world_core.proofs.founding.pass_over.Given as goal
 
 abbrev pub invariant-loop : goal.invariant-loop

@@ -1,6 +1,5 @@
 use Rattle.std.proofs.Common.{◌≡◌, ◌++◌, map}
-use Rattle.std.specs.Vec.Iter.{into_iter_items}
-use Rattle.world_core.specs.Lived.{birth_by, departure_by}
+use Rattle.world_core.proofs.Prelude.{into_iter_items, birth_by, departure_by}
 use Rattle.world_core.proofs.ids.with_ids.Given as goal
 
 abbrev pub invariant-loop-newborn : goal.invariant-loop-newborn

@@ -1,5 +1,5 @@
 use Rattle.std.proofs.Common.{◌≡◌, map, take}
-use Rattle.world_core.specs.Population.{merit_or_zero}
+use Rattle.world_core.proofs.Prelude.{merit_or_zero}
 use Rattle.world_core.proofs.lives.merits_of.Given as goal
 
 abbrev pub invariant-loop-standing : goal.invariant-loop-standing

@@ -1,7 +1,5 @@
 use Rattle.std.proofs.Common.{◌≡◌, ◌∙◌, ◌≤◌, ◌^◌, ℕ, ap, arith, length, map}
-use Rattle.std.proofs.lemmas.List.{length-map}
-use Rattle.std.proofs.lemmas.List.Elements.{All-same}
-use Rattle.world_core.specs.Population.{merit_or_zero}
+use Rattle.world_core.proofs.Prelude.{length-map, All-same, merit_or_zero}
 use Rattle.world_core.proofs.LifeLemmas.{sum-merits}
 use Rattle.world_core.proofs.lives.slices_by.Goals as goal
 

@@ -1,6 +1,5 @@
 use Rattle.std.proofs.Common.{◌≡◌, ◌∙◌, ℕ, ap, arith, length, map, sum, take}
-use Rattle.std.proofs.Math.Seq.{take-length}
-use Rattle.world_core.specs.Sharding.{load_of}
+use Rattle.world_core.proofs.Prelude.{take-length, load_of}
 use Rattle.world_core.proofs.LoadLemmas.{sum_loads}
 use Rattle.world_core.proofs.loads.loads_of.Goals as goal
 

@@ -1,5 +1,5 @@
 use Rattle.std.proofs.Common.{◌≡◌, map, take}
-use Rattle.world_core.specs.Sharding.{load_of}
+use Rattle.world_core.proofs.Prelude.{load_of}
 use Rattle.world_core.proofs.loads.loads_of.Given as goal
 
 -- the cells so far have their loads

@@ -1,7 +1,5 @@
 use Rattle.std.proofs.Common.{◌≡◌, ◌∙◌, ap, List, Some}
-use Rattle.genome.specs.Genome.{letters}
-use Rattle.genotype_bank.specs.BankHistory.{with_genome}
-use Rattle.instruction_set.specs.declared.letter.Letter.{Letter}
+use Rattle.world_core.proofs.Prelude.{letters, with_genome, Letter}
 use Rattle.world_core.proofs.ComingLemmas.{image_with_same}
 use Rattle.world_core.proofs.resuming.intern_again.Given as given
 use Rattle.world_core.proofs.resuming.intern_again.Goals.{In_ok-copy}

@@ -1,9 +1,5 @@
 use Rattle.std.proofs.Common.{◌≡◌, ◌∙◌, ap, arith, length, set, Some, subst, sym}
-use Rattle.std.proofs.lemmas.Result.{on_ok_weaker}
-use Rattle.organism.specs.Image.{organism_of_image}
-use Rattle.organism.specs.Lived.{IsSoundOrganism}
-use Rattle.world_core.specs.Bounds.{CanStand}
-use Rattle.world_core.specs.Scenes.{SceneValue}
+use Rattle.world_core.proofs.Prelude.{on_ok_weaker, organism_of_image, IsSoundOrganism, CanStand, SceneValue}
 use Rattle.world_core.proofs.resuming.restore.Given as given
 use Rattle.world_core.proofs.resuming.restore.Goals.{In_ok-organism}
 use Rattle.world_core.proofs.resuming.restore.Goals as goal

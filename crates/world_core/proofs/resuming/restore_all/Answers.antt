@@ -1,13 +1,6 @@
 use Rattle.std.proofs.Common.{◌≡◌, ◌∙◌, ◌<◌, ◌∷◌, All, Some, List, Option, ap, length, map, rules, subst, sym}
 use Rattle.std.specs.Prelude.{fold}
-use Rattle.std.specs.Vec.Iter.{into_iter_items}
-use Rattle.std.proofs.lemmas.List.{length-set}
-use Rattle.std.proofs.lemmas.List.Elements.{All-head, All-tail}
-use Rattle.saved_lines.specs.SavedValues.{head_values}
-use Rattle.saved_lines.specs.declared.resident.Resident.{Resident}
-use Rattle.saved_worlds.specs.SavedGrammar.{with_placed}
-use Rattle.saved_worlds.specs.ValidState.{MayStandThere, placed_in}
-use Rattle.world_rules.specs.World.{Occupant}
+use Rattle.world_core.proofs.Prelude.{into_iter_items, length-set, All-head, All-tail, head_values, Resident, with_placed, MayStandThere, placed_in, Occupant}
 use Rattle.world_core.proofs.ResumeLemmas.{past_kept}
 use Rattle.world_core.proofs.resuming.restore_all.Given as given
 use Rattle.world_core.proofs.resuming.restore_all.Goals.{In-Some}

@@ -1,10 +1,6 @@
 use Rattle.std.proofs.Common.{◌≡◌, All, length, map}
 use Rattle.std.specs.Prelude.{fold}
-use Rattle.std.specs.Vec.Iter.{into_iter_items}
-use Rattle.saved_lines.specs.SavedValues.{head_values}
-use Rattle.saved_worlds.specs.SavedGrammar.{with_placed}
-use Rattle.saved_worlds.specs.ValidState.{MayStandThere, placed_in}
-use Rattle.world_core.specs.Resumed.{KeepsPast}
+use Rattle.world_core.proofs.Prelude.{into_iter_items, head_values, with_placed, MayStandThere, placed_in, KeepsPast}
 use Rattle.world_core.proofs.resuming.restore_all.Given as goal
 
 -- with those that are left the cells come to the same

@@ -1,10 +1,5 @@
 use Rattle.std.proofs.Common.{◌∙◌, ◌*◌, None, List, Option, ap, fold, length, map, sym}
-use Rattle.std.proofs.lemmas.List.{length-replicate}
-use Rattle.saved_lines.specs.SavedValues.{head_values}
-use Rattle.saved_worlds.specs.Resuming.{forgotten}
-use Rattle.saved_worlds.specs.SavedGrammar.{with_placed}
-use Rattle.saved_worlds.specs.ValidState.{placed_in}
-use Rattle.world_rules.specs.World.{Occupant}
+use Rattle.world_core.proofs.Prelude.{length-replicate, head_values, forgotten, with_placed, placed_in, Occupant}
 use Rattle.world_core.proofs.ResumeLemmas.{world_made}
 use Rattle.world_core.proofs.resuming.restored_scene.Goals as goal
 

@@ -1,5 +1,5 @@
 use Rattle.std.proofs.Common.{arith}
-use Rattle.world_config.specs.Bounds.{frame_of}
+use Rattle.world_core.proofs.Prelude.{frame_of}
 use Rattle.world_core.proofs.SettingsLemmas.{rate-fits}
 use Rattle.world_core.proofs.settings.rates_at.Goals as goal
 

@@ -1,6 +1,5 @@
 use Rattle.std.proofs.Common.{◌≡◌, take}
-use Rattle.mutations.specs.Rates.{numbers_of}
-use Rattle.world_config.specs.Shown.{values_of}
+use Rattle.world_core.proofs.Prelude.{numbers_of, values_of}
 use Rattle.world_core.proofs.SettingsLemmas.{rates_by}
 use Rattle.world_core.proofs.settings.rates_at.Given as goal
 

@@ -1,8 +1,5 @@
 use Rattle.std.proofs.Common.{◌≡◌, ◌∙◌, ℕ, ◌+◌, ◌-◌, ◌≤◌, List, [], ◌∷◌, ◌++◌, ap, arith, drop, length, map, refl, sum, sym, take}
-use Rattle.std.proofs.lemmas.List.{length-take-le, length_push}
-use Rattle.cell_shards.specs.Shards.{first_cell}
-use Rattle.cell_shards.specs.declared.job.Job.{Job}
-use Rattle.world_core.specs.Sharding.{load_of, seat_from, share_before}
+use Rattle.world_core.proofs.Prelude.{length-take-le, length_push, first_cell, Job, load_of, seat_from, share_before}
 use Rattle.world_core.proofs.CutLemmas.{cut-more}
 use Rattle.world_core.proofs.ShareLemmas.{shares-of_none, started-more}
 use Rattle.world_core.proofs.sharding.jobs_of.Goals as goal

@@ -1,5 +1,5 @@
 use Rattle.std.proofs.Common.{◌≡◌, ◌+◌, ◌≤◌, length, map, sum}
-use Rattle.world_core.specs.Sharding.{load_of}
+use Rattle.world_core.proofs.Prelude.{load_of}
 use Rattle.world_core.proofs.CutLemmas.{HaveCut}
 use Rattle.world_core.proofs.ShareLemmas.{HaveStarted}
 use Rattle.world_core.proofs.sharding.jobs_of.Given as goal

@@ -1,10 +1,5 @@
 use Rattle.std.proofs.Common.{◌≡◌, ◌∙◌, [], ◌∷◌, List, All, ap, arith, drop, get_or, rules, subst, sym}
-use Rattle.std.specs.Vec.Iter.{into_iter_items}
-use Rattle.std.proofs.lemmas.List.{nil_from_length}
-use Rattle.std.proofs.lemmas.List.Elements.{All-head, All-same, All-tail}
-use Rattle.cell_shards.specs.Finishing.{IsNumbered}
-use Rattle.cell_shards.specs.declared.finished.Finished.{Finished}
-use Rattle.world_core.specs.Sharding.{IsJoined}
+use Rattle.world_core.proofs.Prelude.{into_iter_items, nil_from_length, All-head, All-same, All-tail, IsNumbered, Finished, IsJoined}
 use Rattle.world_core.proofs.TwoShardLemmas.{AreTwo, joined-alone, joined-more, two-numbered}
 use Rattle.world_core.proofs.sharding.join_all.Goals as goal
 

@@ -1,8 +1,5 @@
 use Rattle.std.proofs.Common.{◌≡◌, All}
-use Rattle.std.specs.Vec.Iter.{into_iter_items}
-use Rattle.cell_shards.specs.Finishing.{IsNumbered}
-use Rattle.cell_shards.specs.declared.finished.Finished.{Finished}
-use Rattle.world_core.specs.Sharding.{IsJoined}
+use Rattle.world_core.proofs.Prelude.{into_iter_items, IsNumbered, Finished, IsJoined}
 use Rattle.world_core.proofs.sharding.join_all.Given as goal
 
 -- what joins those to come behind the whole so far joins all

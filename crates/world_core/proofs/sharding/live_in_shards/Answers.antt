@@ -1,12 +1,5 @@
 use Rattle.std.proofs.Common.{◌≡◌, ◌∙◌, ◌<◌, ◌^◌, List, All, ap, arith, fold, length, map, subst, sym}
-use Rattle.std.proofs.lemmas.List.Elements.{All-same, All-weaker}
-use Rattle.cell_shards.specs.CellLives.{IsYoung, round_numbers, standing_in}
-use Rattle.cell_shards.specs.Finishing.{IsNumbered, birth_of}
-use Rattle.cell_shards.specs.declared.delivered.Delivered.{Delivered}
-use Rattle.cell_shards.specs.declared.finished.Finished.{Finished}
-use Rattle.genotype_bank.specs.BankHistory.{genotypes_of}
-use Rattle.instruction_set.specs.declared.letter.Letter.{Letter}
-use Rattle.world_core.specs.Genotypes.{TakesIn}
+use Rattle.world_core.proofs.Prelude.{All-same, All-weaker, IsYoung, round_numbers, standing_in, IsNumbered, birth_of, Delivered, Finished, genotypes_of, Letter, TakesIn}
 use Rattle.world_core.proofs.GenotypeLemmas.{genotypes-different, len-taken, next_len}
 use Rattle.world_core.proofs.CutLemmas.{jobs-can-run}
 use Rattle.world_core.proofs.JoinLemmas.{EndsAs, each-finished, ends-as, numbers-finished, seats-finished, seats-shared, takes-in}

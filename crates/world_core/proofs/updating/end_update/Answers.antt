@@ -1,19 +1,5 @@
 use Rattle.std.proofs.Common.{◌≡◌, ◌∙◌, ◌++◌, ◌∷◌, [], All, ap, length, map, subst, sym, ℕ, List, arith}
-use Rattle.cell_shards.specs.Finishing.{genome_in}
-use Rattle.instruction_set.specs.declared.letter.Letter.{Letter}
-use Rattle.lineage_log.specs.LogGrammar.{lines_text}
-use Rattle.log_lines.specs.Line.{Count}
-use Rattle.log_lines.specs.LineText.{line_text}
-use Rattle.world_config.specs.Shown.{values_of}
-use Rattle.world_rules.specs.LogText.{birth_lines, event_lines}
-use Rattle.world_rules.specs.Statistics.{scene_stats}
-use Rattle.world_rules.specs.Update.{after_births, after_events}
-use Rattle.world_core.specs.Bounds.{AreDeliveries}
-use Rattle.world_core.specs.Endings.{with_births}
-use Rattle.world_core.specs.Genotypes.{HasNumber, genomes_ever}
-use Rattle.world_core.specs.Lived.{delivered_in, delivery_in, departure_line}
-use Rattle.world_core.specs.Scenes.{Grows, SceneValue, scene_in}
-use Rattle.world_core.specs.declared.ids.Birth.{Birth}
+use Rattle.world_core.proofs.Prelude.{genome_in, Letter, lines_text, Count, line_text, values_of, birth_lines, event_lines, scene_stats, after_births, after_events, AreDeliveries, with_births, delivered_in, delivery_in, departure_line, HasNumber, genomes_ever, Grows, SceneValue, scene_in, Birth}
 use Rattle.world_core.proofs.GrowLemmas.{Grows_births, Grows_on}
 use Rattle.world_core.proofs.UpdateLemmas.{joined}
 use Rattle.world_core.proofs.updating.end_update.Given as given

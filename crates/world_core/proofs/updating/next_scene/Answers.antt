@@ -1,19 +1,5 @@
 use Rattle.std.proofs.Common.{◌∙◌, ◌++◌, [], ◌∷◌, ap, length, map, refl, subst, sym, ℕ, List, arith}
-use Rattle.std.proofs.lemmas.List.{length-map}
-use Rattle.lineage_log.specs.Links.{Link}
-use Rattle.lineage_log.specs.LogGrammar.{lines_text}
-use Rattle.log_lines.specs.Line.{Count}
-use Rattle.world_config.specs.Shown.{values_of}
-use Rattle.world_rules.specs.LogText.{birth_lines, event_lines}
-use Rattle.world_rules.specs.Scene.{Scene}
-use Rattle.world_rules.specs.Statistics.{scene_stats}
-use Rattle.world_rules.specs.Update.{world_of}
-use Rattle.world_core.specs.Bounds.{AreDeliveries}
-use Rattle.world_core.specs.Endings.{last_lines, with_births, with_departed}
-use Rattle.world_core.specs.Genotypes.{HasNumber}
-use Rattle.world_core.specs.Lived.{delivery_in, departure_line}
-use Rattle.world_core.specs.Scenes.{Grows, scene_in}
-use Rattle.world_core.specs.declared.ids.Birth.{Birth}
+use Rattle.world_core.proofs.Prelude.{length-map, Link, lines_text, Count, values_of, birth_lines, event_lines, Scene, scene_stats, world_of, AreDeliveries, last_lines, with_births, with_departed, delivery_in, departure_line, HasNumber, Grows, scene_in, Birth}
 use Rattle.world_core.proofs.BirthOrderLemmas.{All-unmap}
 use Rattle.world_core.proofs.UpdateLemmas.{Phases, lines_of_phases, scene_of_phases, stats_of_phases, update_of_phases}
 use Rattle.world_core.proofs.updating.next_scene.Given as given

@@ -1,8 +1,5 @@
 use Rattle.std.proofs.Common.{◌∙◌, ap, length, map, subst}
-use Rattle.world_config.specs.Shown.{values_of}
-use Rattle.world_core.specs.Bounds.{AreDeliveries}
-use Rattle.world_core.specs.Lived.{delivery_in}
-use Rattle.world_core.specs.Scenes.{SceneValue}
+use Rattle.world_core.proofs.Prelude.{values_of, AreDeliveries, delivery_in, SceneValue}
 use Rattle.world_core.proofs.UpdateLemmas.{length_lived}
 use Rattle.world_core.proofs.updating.scene_of_lives.Goals as goal
 

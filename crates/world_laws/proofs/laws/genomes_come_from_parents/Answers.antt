@@ -1,4 +1,4 @@
-use Rattle.world_config.specs.Shown.{values_of}
+use Rattle.world_laws.proofs.Prelude.{values_of}
 use Rattle.world_laws.proofs.ConfigBounds.{config_is}
 use Rattle.world_laws.proofs.Descents.{descended_after}
 use Rattle.world_laws.proofs.LineDescents.{line_descends}

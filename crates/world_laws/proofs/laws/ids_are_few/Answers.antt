@@ -1,5 +1,5 @@
 use Rattle.std.proofs.Common.{arith}
-use Rattle.world_config.specs.Shown.{values_of}
+use Rattle.world_laws.proofs.Prelude.{values_of}
 use Rattle.world_laws.proofs.ConfigBounds.{config_is}
 use Rattle.world_laws.proofs.Ids.{log_gives_few, people_are_few}
 use Rattle.world_laws.proofs.laws.ids_are_few.Goals as goal

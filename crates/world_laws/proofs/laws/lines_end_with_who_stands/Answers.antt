@@ -1,4 +1,4 @@
-use Rattle.world_config.specs.Shown.{values_of}
+use Rattle.world_laws.proofs.Prelude.{values_of}
 use Rattle.world_laws.proofs.ConfigBounds.{config_is}
 use Rattle.world_laws.proofs.LineDescents.{line_ends}
 use Rattle.world_laws.proofs.laws.lines_end_with_who_stands.Goals as goal

@@ -1,4 +1,4 @@
-use Rattle.world_config.specs.Shown.{values_of}
+use Rattle.world_laws.proofs.Prelude.{values_of}
 use Rattle.world_laws.proofs.ConfigBounds.{config_is}
 use Rattle.world_laws.proofs.Turnovers.{turnover_after}
 use Rattle.world_laws.proofs.laws.organisms_come_and_go.Goals as goal

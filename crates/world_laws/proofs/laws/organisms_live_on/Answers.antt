@@ -1,5 +1,4 @@
-use Rattle.world_config.specs.Shown.{values_of}
-use Rattle.world_rules.specs.WorldRun.{world_after}
+use Rattle.world_laws.proofs.Prelude.{values_of, world_after}
 use Rattle.world_laws.proofs.ConfigBounds.{config_is}
 use Rattle.world_laws.proofs.Endings.{live_on}
 use Rattle.world_laws.proofs.WholeLogs.{run_after}

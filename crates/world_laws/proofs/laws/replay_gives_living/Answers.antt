@@ -1,5 +1,5 @@
 use Rattle.std.proofs.Common.{arith}
-use Rattle.world_config.specs.Shown.{values_of}
+use Rattle.world_laws.proofs.Prelude.{values_of}
 use Rattle.world_laws.proofs.ConfigBounds.{config_is}
 use Rattle.world_laws.proofs.Replays.{replays_to_living}
 use Rattle.world_laws.proofs.laws.replay_gives_living.Goals as goal

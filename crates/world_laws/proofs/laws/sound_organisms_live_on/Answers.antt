@@ -1,4 +1,4 @@
-use Rattle.world_config.specs.Shown.{values_of}
+use Rattle.world_laws.proofs.Prelude.{values_of}
 use Rattle.world_laws.proofs.ConfigBounds.{config_is}
 use Rattle.world_laws.proofs.Endings.{live_on, next_sound}
 use Rattle.world_laws.proofs.laws.sound_organisms_live_on.Goals as goal

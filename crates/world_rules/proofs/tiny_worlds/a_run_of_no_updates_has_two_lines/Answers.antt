@@ -1,6 +1,5 @@
 use Rattle.std.proofs.Common.{refl}
-use Rattle.std.specs.Fmt.{digits}
-use Rattle.world_rules.specs.LogText.{log_text, head_text, end_text}
+use Rattle.world_rules.proofs.Prelude.{digits, log_text, head_text, end_text}
 use Rattle.world_rules.proofs.tiny_worlds.a_run_of_no_updates_has_two_lines.Goals as goal
 
 pub returns : goal.returns

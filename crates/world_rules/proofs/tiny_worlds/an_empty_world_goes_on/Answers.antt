@@ -1,18 +1,5 @@
 use Rattle.std.proofs.Common.{refl}
-use Rattle.world_rules.specs.WorldRun.{world_after}
-use Rattle.world_rules.specs.Update.{after_births, after_burials, after_event, after_events, births_of, deaths_of, events_at, last_scene, next_scene, next_world, placings_of, scene_of_lives}
-use Rattle.world_rules.specs.LogText.{lines_of_lives, update_lines}
-use Rattle.organism.specs.OrganismLife.{life_by}
-use Rattle.world_rules.specs.Lives.{life_of, lives_of, slices_at}
-use Rattle.world_rules.specs.Settings.{rates_at, settings_at}
-use Rattle.world_rules.specs.Scene.{with_death}
-use Rattle.world_rules.specs.Statistics.{stats_in}
-use Rattle.world_rules.specs.World.{first_world, founder_of}
-use Rattle.organism.specs.OrganismState.{new_organism}
-use Rattle.organism.specs.UpdateLife.{after_step, death_in, life, life_state_after}
-use Rattle.organism.specs.Life.{life_step}
-use Rattle.virtual_cpu.specs.Step.{step}
-use Rattle.merit_slices.specs.Slices.{slices_of}
+use Rattle.world_rules.proofs.Prelude.{world_after, after_births, after_burials, after_event, after_events, births_of, deaths_of, events_at, last_scene, next_scene, next_world, placings_of, scene_of_lives, lines_of_lives, update_lines, life_by, life_of, lives_of, slices_at, rates_at, settings_at, with_death, first_world, founder_of, stats_in, new_organism, after_step, death_in, life, life_state_after, life_step, step, slices_of}
 use Rattle.world_rules.proofs.tiny_worlds.an_empty_world_goes_on.Goals as goal
 
 pub returns : goal.returns

@@ -1,13 +1,6 @@
 use Rattle.std.proofs.Common.{List, [], ◌∷◌, ◌++◌, ap, fold}
-use Rattle.std.specs.List.{zip, scan}
-use Rattle.birth_board.specs.declared.placing.Placing.{Placing}
+use Rattle.world_rules.proofs.Prelude.{zip, scan, Placing, OrganismState, new_organism, death_lines, birth_line, event_lines, lines_of_lives, Scene, with_death, with_newcomer, stats_in, scene_stats, deaths_of, after_burials, births_of, placings_of, with_newborn, after_births, events_at, after_event, after_events, last_scene, tiny, fertile, scene_after_life}
 use Rattle.log_lines.specs.Line.{Line, Count}
-use Rattle.organism.specs.OrganismState.{OrganismState, new_organism}
-use Rattle.world_rules.specs.LogText.{death_lines, birth_line, event_lines, lines_of_lives}
-use Rattle.world_rules.specs.Scene.{Scene, with_death, with_newcomer}
-use Rattle.world_rules.specs.Statistics.{stats_in, scene_stats}
-use Rattle.world_rules.specs.Update.{deaths_of, after_burials, births_of, placings_of, with_newborn, after_births, events_at, after_event, after_events, last_scene}
-use Rattle.world_rules.specs.TinyWorlds.{tiny, fertile, scene_after_life}
 use Rattle.world_rules.proofs.TinyPlacings.{two_placed}
 use Rattle.world_rules.proofs.tiny_worlds.newborns_take_the_only_cell.Goals as goal
 

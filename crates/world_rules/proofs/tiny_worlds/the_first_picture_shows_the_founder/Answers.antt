@@ -1,10 +1,6 @@
 use Rattle.std.proofs.Common.{refl}
-use Rattle.std.specs.Fmt.{digits}
-use Rattle.census.specs.Dominance.{dominant_among}
-use Rattle.organism.specs.OrganismState.{new_organism}
-use Rattle.world_rules.specs.World.{first_world, founder_of}
-use Rattle.world_rules.specs.WorldRun.{world_after}
-use Rattle.world_rules.specs.Statistics.{stats_of, stats_in, dominant_of}
+use Rattle.world_rules.proofs.Prelude.{digits, new_organism, first_world, founder_of, world_after, stats_of, stats_in, dominant_of}
+use Rattle.census.specs.Counts.{dominant_among}
 use Rattle.world_rules.specs.Picture.{picture_of, picture_text}
 use Rattle.world_rules.proofs.tiny_worlds.the_first_picture_shows_the_founder.Goals as goal
 

@@ -1,8 +1,5 @@
 use Rattle.std.proofs.Common.{refl}
-use Rattle.world_rules.specs.World.{first_world, founder_of}
-use Rattle.world_rules.specs.Lives.{slices_at}
-use Rattle.organism.specs.OrganismState.{new_organism}
-use Rattle.merit_slices.specs.Slices.{slices_of}
+use Rattle.world_rules.proofs.Prelude.{first_world, founder_of, slices_at, new_organism, slices_of}
 use Rattle.world_rules.proofs.tiny_worlds.the_founder_gets_all_steps.Goals as goal
 
 pub returns : goal.returns

@@ -1,12 +1,6 @@
 use Rattle.std.proofs.Common.{◌≡◌, ◌∙◌, ◌+◌, ap, sym, subst, length, get_or, ℕ, List, Some, arith}
 use Rattle.std.specs.Prelude.{slice_get}
-use Rattle.std.proofs.lemmas.Option.{slice_get-get_or}
-use Rattle.lineage_log.specs.Trees.{TreeValue}
-use Rattle.world_config.specs.Shown.{values_of}
-use Rattle.world_rules.specs.World.{World}
-use Rattle.world_rules.specs.WorldRun.{world_after}
-use Rattle.world_tree.specs.Growing.{HasBuried}
-use Rattle.world_tree.specs.WorldTrees.{IsTreeOf, scene_after}
+use Rattle.world_tree.proofs.Prelude.{slice_get-get_or, TreeValue, values_of, World, world_after, HasBuried, IsTreeOf, scene_after}
 use Rattle.world_tree.proofs.EnterLemmas.{IsUpdate, next_is, update_is}
 use Rattle.world_tree.proofs.BuryLemmas.{buried_all, buried_more, can_die}
 use Rattle.world_tree.proofs.burying.bury_all.Goals.{After-keeping_goes_on, In-loop-id}

@@ -1,7 +1,4 @@
-use Rattle.world_config.specs.Shown.{values_of}
-use Rattle.world_rules.specs.WorldRun.{world_after}
-use Rattle.world_tree.specs.Growing.{HasBuried}
-use Rattle.world_tree.specs.WorldTrees.{scene_after}
+use Rattle.world_tree.proofs.Prelude.{values_of, world_after, HasBuried, scene_after}
 use Rattle.world_tree.proofs.burying.bury_all.Given as goal
 
 -- those so far are buried

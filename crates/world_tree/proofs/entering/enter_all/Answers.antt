@@ -1,16 +1,10 @@
 use Rattle.std.proofs.Common.{◌≡◌, ◌∙◌, ◌+◌, ap, sym, length, length-drop, List, Some, arith}
 use Rattle.std.specs.Prelude.{slice_get}
+use Rattle.world_tree.proofs.Prelude.{length_push, slice_get-get_or, Link, values_of, world_after, get_dropped, scene_after}
 use Rattle.std.specs.Vec.Iter.{into_iter_steps}
 use Rattle.std.proofs.lemmas.Iterator.{YieldsList}
 use Rattle.std.proofs.lemmas.Iterator.Adapters.{YieldsList-from_vec}
 use Rattle.std.proofs.lemmas.Iterator.Consumers.{YieldsList-turn, YieldsList-end}
-use Rattle.std.proofs.lemmas.List.{length_push}
-use Rattle.std.proofs.lemmas.Option.{slice_get-get_or}
-use Rattle.lineage_log.specs.Links.{Link}
-use Rattle.world_config.specs.Shown.{values_of}
-use Rattle.world_rules.specs.WorldRun.{world_after}
-use Rattle.world_laws.proofs.ListLemmas.{get_dropped}
-use Rattle.world_tree.specs.WorldTrees.{scene_after}
 use Rattle.world_tree.proofs.EnterLemmas.{IsUpdate, can_enter, entered_all, entered_more, update_is}
 use Rattle.world_tree.proofs.entering.enter_all.Goals.{After-into_iter-newcomer-iterator, After-keeping_goes_on, In-Some}
 use Rattle.world_tree.proofs.entering.enter_all.Goals as goal

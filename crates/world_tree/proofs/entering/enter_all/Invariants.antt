@@ -1,7 +1,5 @@
 use Rattle.std.proofs.Common.{length}
-use Rattle.world_config.specs.Shown.{values_of}
-use Rattle.world_rules.specs.WorldRun.{world_after}
-use Rattle.world_tree.specs.WorldTrees.{scene_after}
+use Rattle.world_tree.proofs.Prelude.{values_of, world_after, scene_after}
 use Rattle.world_tree.proofs.entering.enter_all.Given as goal
 use Rattle.world_tree.proofs.EnterLemmas.{HasEntered}
 

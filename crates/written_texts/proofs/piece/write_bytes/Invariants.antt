@@ -1,6 +1,6 @@
 -- The bytes so far are written.
 use Rattle.std.proofs.Common.{take, Ok}
-use Rattle.written_texts.specs.Pieces.{Writes}
+use Rattle.written_texts.specs.WrittenText.{Writes}
 use Rattle.written_texts.proofs.piece.write_bytes.Given as goal
 
 abbrev pub invariant-loop-byte : goal.invariant-loop-byte

@@ -1,7 +1,7 @@
 -- The letters so far are written.
 use Rattle.std.proofs.Common.{map, take, Ok}
 use Rattle.instruction_set.specs.Letter.{byte_of}
-use Rattle.written_texts.specs.Pieces.{Writes}
+use Rattle.written_texts.specs.WrittenText.{Writes}
 use Rattle.written_texts.proofs.piece.write_letters.Given as goal
 
 abbrev pub invariant-loop-letter : goal.invariant-loop-letter

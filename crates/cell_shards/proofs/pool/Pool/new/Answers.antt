@@ -1,7 +1,5 @@
 use Rattle.std.proofs.Common.{rules, ◌≡◌, ◌∙◌, ◌++◌, [], List, ap, arith, length, map, replicate, sym}
-use Rattle.std.specs.Vec.Iter.{into_iter_items}
-use Rattle.std.proofs.lemmas.List.{append-nil, length-map, length-replicate, nil_from_length}
-use Rattle.cell_shards.specs.declared.job.Job.{Job}
+use Rattle.cell_shards.proofs.Prelude.{into_iter_items, append-nil, length-map, length-replicate, nil_from_length, Job}
 use Rattle.cell_shards.proofs.PoolLemmas.{begins, lying}
 use Rattle.cell_shards.proofs.pool.Pool.new.Goals.{After-deref}
 use Rattle.cell_shards.proofs.pool.Pool.new.Goals as goal

@@ -1,5 +1,5 @@
 use Rattle.std.proofs.Common.{◌≡◌, ◌++◌, map}
-use Rattle.std.specs.Vec.Iter.{into_iter_items}
+use Rattle.cell_shards.proofs.Prelude.{into_iter_items}
 use Rattle.cell_shards.proofs.PoolLemmas.{lying}
 use Rattle.cell_shards.proofs.pool.Pool.new.Given as goal
 

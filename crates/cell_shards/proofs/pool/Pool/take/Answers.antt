@@ -1,6 +1,5 @@
 use Rattle.std.proofs.Common.{rules, ◌≡◌, ◌∙◌, ◌∷◌, ℕ, IfSome, List, None, Option, Some, ap, get_or, slice_get, subst, sym}
-use Rattle.atomic_table.specs.Table.{rest}
-use Rattle.cell_shards.specs.declared.job.Job.{Job}
+use Rattle.cell_shards.proofs.Prelude.{rest, Job}
 use Rattle.cell_shards.proofs.PoolLemmas.{asks, taken_out}
 use Rattle.cell_shards.proofs.pool.Pool.take.Goals as goal
 

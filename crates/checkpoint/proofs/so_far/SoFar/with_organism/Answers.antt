@@ -1,7 +1,5 @@
 use Rattle.std.proofs.Common.{List, ap, ◌∙◌}
-use Rattle.saved_lines.specs.SavedLines.{values_of_organism}
-use Rattle.saved_lines.specs.declared.resident.Resident.{Resident}
-use Rattle.checkpoint.specs.SoFarValue.{SoFarValue, so_far_of}
+use Rattle.checkpoint.proofs.Prelude.{values_of_organism, Resident, SoFarValue, so_far_of}
 use Rattle.checkpoint.proofs.SoFarLemmas.{kept_more, so_far_more}
 use Rattle.checkpoint.proofs.so_far.SoFar.with_organism.Goals as goal
 

@@ -1,10 +1,5 @@
 use Rattle.std.proofs.Common.{rules, sym, ap, ◌∙◌, subst, ◌≡◌, IfOk, Some, None, Option, List, [], map}
-use mathlib.Core.Option.{some-injective}
-use Rattle.genome.specs.Genome.{letters}
-use Rattle.instruction_set.specs.declared.letter.Letter.{Letter}
-use Rattle.genotype_bank.specs.BankHistory.{genotypes_of}
-use Rattle.genotype_bank.specs.Catalog.{genomes_in}
-use Rattle.genotype_bank.specs.declared.catalog.Catalog.{Catalog}
+use Rattle.genotype_bank.proofs.Prelude.{some-injective, letters, Letter, genotypes_of, genomes_in, Catalog}
 use Rattle.genotype_bank.proofs.SeatLemmas.{closes}
 use Rattle.genotype_bank.proofs.bank.Bank.close.Goals as goal
 

@@ -1,11 +1,6 @@
 use Rattle.std.proofs.Common.{sym, ap, ◌∙◌, subst, ◌≡◌, IfOk, Some, slice_get}
+use Rattle.genotype_bank.proofs.Prelude.{letters, entry, call_of, calls_under, genotypes_of, MakesCall, Seated, seat_of, last_call, Call}
 use Rattle.std.specs.Result.{is_ok}
-use Rattle.genome.specs.Genome.{letters}
-use Rattle.genotype_bank.specs.BankHistory.{entry, call_of, calls_under, genotypes_of}
-use Rattle.genotype_bank.specs.BankTable.{Seated, seat_of}
-use Rattle.genotype_bank.specs.Catalog.{last_call}
-use Rattle.genotype_bank.specs.Seats.{MakesCall}
-use Rattle.genotype_bank.specs.declared.view.Call.{Call}
 use Rattle.genotype_bank.proofs.CallLemmas.{grows, known_after, makes_call}
 use Rattle.genotype_bank.proofs.DifferentLemmas.{genotypes_of_push}
 use Rattle.genotype_bank.proofs.bank.Bank.intern.Goals as goal

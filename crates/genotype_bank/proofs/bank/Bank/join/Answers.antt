@@ -1,11 +1,5 @@
 use Rattle.std.proofs.Common.{◌++◌, ◌∙◌, rules, arith, sym, ap, subst, ◌≡◌, ◌<◌, ◌+◌, List, ℕ}
-use mathlib.Core.List.{IsPrefix}
-use lib.ListN.{get_elem?}
-use Rattle.genotype_bank.specs.declared.view.Entry.{Entry}
-use Rattle.genotype_bank.specs.BankHistory.{calls_under}
-use Rattle.std.specs.List.Sorted.{IsPermutation}
-use Rattle.genotype_bank.specs.Seats.{own_calls_of}
-use Rattle.genotype_bank.specs.BankSteps.{memo_of}
+use Rattle.genotype_bank.proofs.Prelude.{IsPrefix, get_elem?, Entry, calls_under, own_calls_of, IsPermutation, memo_of}
 use Rattle.genotype_bank.proofs.CallLemmas.{own_both}
 use Rattle.genotype_bank.proofs.SeatLemmas.{joins, recalls}
 use Rattle.genotype_bank.proofs.bank.Bank.join.Goals as goal

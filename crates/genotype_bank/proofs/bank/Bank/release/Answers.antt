@@ -1,7 +1,5 @@
 use Rattle.std.proofs.Common.{rules, sym, ap, ◌∙◌, ◌++◌, ◌∷◌, []}
-use Rattle.genotype_bank.specs.BankHistory.{entry, genotypes_of}
-use Rattle.genotype_bank.specs.Catalog.{call_in}
-use Rattle.genotype_bank.specs.BankSteps.{last_drawn_number}
+use Rattle.genotype_bank.proofs.Prelude.{entry, genotypes_of, call_in, last_drawn_number}
 use Rattle.genotype_bank.proofs.TurnLemmas.{releases}
 use Rattle.genotype_bank.proofs.bank.Bank.release.Goals as goal
 

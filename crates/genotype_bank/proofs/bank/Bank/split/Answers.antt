@@ -1,7 +1,6 @@
 use Rattle.std.proofs.Common.{rules, arith, refl, sym, ap, ◌∙◌, subst, ◌≡◌, ◌≤◌, ◌-◌}
+use Rattle.genotype_bank.proofs.Prelude.{IsIdleSeat, kept_half}
 use Rattle.genotype_bank.proofs.SeatLemmas.{splits}
-use Rattle.genotype_bank.specs.BankTable.{IsIdleSeat}
-use Rattle.genotype_bank.specs.BankSteps.{kept_half}
 use Rattle.genotype_bank.proofs.bank.Bank.split.Goals as goal
 
 pub split_seat-pass-requires : goal.split_seat-pass-requires

@@ -1,9 +1,5 @@
 use Rattle.std.proofs.Common.{sym, ap, ◌∙◌, subst, List, [], ◌∷◌, ◌++◌, Some, None, Option}
-use Rattle.atomic_table.specs.Table.{opening}
-use Rattle.genotype_bank.specs.declared.catalog.Catalog.{Catalog}
-use Rattle.genotype_bank.specs.BankTable.{IsBankTable}
-use Rattle.genotype_bank.specs.Views.{first_view}
-use Rattle.genotype_bank.specs.Letters.{letters_in}
+use Rattle.genotype_bank.proofs.Prelude.{opening, Catalog, IsBankTable, letters_in, first_view}
 use Rattle.genotype_bank.proofs.SeatLemmas.{begins}
 use Rattle.genotype_bank.proofs.bank.Bank.start.Goals as goal
 

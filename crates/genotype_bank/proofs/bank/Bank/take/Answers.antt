@@ -1,5 +1,5 @@
 use Rattle.std.proofs.Common.{rules, sym, ap, ◌∙◌, ◌∷◌, Some}
-use Rattle.atomic_table.specs.Table.{rest}
+use Rattle.genotype_bank.proofs.Prelude.{rest}
 use Rattle.genotype_bank.proofs.bank.Bank.take.Goals as goal
 
 pub exchange-requires : goal.exchange-requires

@@ -1,5 +1,5 @@
 use Rattle.std.proofs.Common.{◌∙◌, ap, sym}
-use Rattle.genotype_bank.specs.Packing.{packed}
+use Rattle.genotype_bank.proofs.Prelude.{packed}
 use Rattle.genotype_bank.proofs.PackingLemmas.{has_letters}
 use Rattle.genotype_bank.proofs.packed_genome.PackedGenome.pack.Goals as goal
 

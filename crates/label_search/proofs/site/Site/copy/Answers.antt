@@ -1,6 +1,5 @@
 use Rattle.std.proofs.Common.{◌∙◌, ap, ◌+◌, ◌*◌, ◌/◌, ◌%◌, true}
-use Rattle.label_search.specs.Site.{Site}
-use Rattle.label_search.specs.PackedSite.{executed_in}
+use Rattle.label_search.proofs.Prelude.{Site, executed_in}
 use Rattle.label_search.proofs.SiteLemmas.{place-packed, rest-packed, rest-copied}
 use Rattle.label_search.proofs.site.Site.copy.Goals as goal
 

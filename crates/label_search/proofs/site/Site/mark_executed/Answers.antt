@@ -1,6 +1,5 @@
 use Rattle.std.proofs.Common.{◌∙◌, ap, true}
-use Rattle.label_search.specs.Site.{Site}
-use Rattle.label_search.specs.PackedSite.{clean_in, copied_in}
+use Rattle.label_search.proofs.Prelude.{Site, clean_in, copied_in}
 use Rattle.label_search.proofs.SiteLemmas.{place-packed, rest-packed, rest-marked}
 use Rattle.label_search.proofs.site.Site.mark_executed.Goals as goal
 

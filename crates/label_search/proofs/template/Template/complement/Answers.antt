@@ -1,10 +1,6 @@
 use Rattle.std.proofs.Common.{refl, ◌<◌, ◌+◌, ◌≡◌, ◌∙◌, arith, ◌++◌, ◌∷◌, [], length, take, get_or, true, length-take}
 use Rattle.std.specs.Prelude.{unwrap_or}
-use Rattle.std.proofs.lemmas.Grind.{common_steps}
-use Rattle.std.proofs.lemmas.List.{length-map, map-append}
-use Rattle.instruction_set.specs.declared.letter.Letter.TheVariants.{NopA}
-use Rattle.instruction_set.specs.Letter.{complement_of}
-use Rattle.label_search.specs.Template.{is_nop}
+use Rattle.label_search.proofs.Prelude.{common_steps, length-map, map-append, NopA, complement_of, is_nop}
 use Rattle.label_search.proofs.TemplateLemmas.{nops_read-room, is_nop-complement}
 use Rattle.label_search.proofs.template.Template.complement.Goals as goal
 

@@ -1,5 +1,5 @@
 use Rattle.std.proofs.Common.{◌≡◌, take}
-use Rattle.label_search.specs.Template.{complements_of}
+use Rattle.label_search.proofs.Prelude.{complements_of}
 use Rattle.label_search.proofs.template.Template.complement.Given as goal
 
 abbrev pub invariant-loop-at : goal.invariant-loop-at

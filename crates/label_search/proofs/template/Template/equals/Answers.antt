@@ -1,4 +1,4 @@
-use Rattle.std.proofs.lemmas.Bool.Decides.{same_from_decides}
+use Rattle.label_search.proofs.Prelude.{same_from_decides}
 use Rattle.label_search.proofs.PackedLemmas.{packed-same}
 use Rattle.label_search.proofs.template.Template.equals.Goals as goal
 

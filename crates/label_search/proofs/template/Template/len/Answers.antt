@@ -1,5 +1,5 @@
 use Rattle.std.proofs.Common.{arith, subst}
-use Rattle.label_search.specs.Template.{IsTemplate}
+use Rattle.label_search.proofs.Prelude.{IsTemplate}
 use Rattle.label_search.proofs.PackedLemmas.{newest-few, template-packed}
 use Rattle.label_search.proofs.template.Template.len.Goals as goal
 

@@ -1,5 +1,5 @@
 use Rattle.std.proofs.Common.{◌∙◌, ap}
-use Rattle.label_search.specs.Template.{nops_read}
+use Rattle.label_search.proofs.Prelude.{nops_read}
 use Rattle.label_search.proofs.PackedLemmas.{packed-read, nops-read, template-packed}
 use Rattle.label_search.proofs.template.Template.note.Goals as goal
 

@@ -1,6 +1,5 @@
 use Rattle.std.proofs.Common.{◌∙◌, Global, List, Option, None, ap, set, option_map}
-use Rattle.std.proofs.lemmas.List.{map-set}
-use Rattle.instruction_set.specs.declared.letter.Letter.{Letter}
+use Rattle.lineage_log.proofs.Prelude.{map-set, Letter}
 use Rattle.std.specs.declared.rc.Rc.{Rc}
 use Rattle.genome.specs.declared.genome.Genome.{Genome}
 use Rattle.genome.specs.Genome.{letters}

@@ -1,5 +1,5 @@
 use Rattle.std.proofs.Common.{ap}
-use Rattle.log_lines.specs.Line.{line_values}
+use Rattle.lineage_log.proofs.Prelude.{line_values}
 use Rattle.lineage_log.proofs.reader.Reader.tell.Goals as goal
 
 pub unreachable-requires : goal.unreachable-requires

@@ -1,10 +1,6 @@
 use Rattle.std.proofs.Common.{◌≡◌, ◌∙◌, ap, sym, true≢false, List, Some, None}
 use Rattle.std.specs.Prelude.{is_some, is_ok}
-use Rattle.instruction_set.specs.declared.letter.Letter.{Letter}
-use Rattle.mutations.specs.BirthRecord.{child_of, record_of}
-use Rattle.lineage_log.specs.Ancestry.{link_of}
-use Rattle.lineage_log.specs.Trees.{TreeValue, genome_in_tree}
-use Rattle.lineage_log.specs.Nodes.{id_order, node_at}
+use Rattle.lineage_log.proofs.Prelude.{Letter, child_of, record_of, link_of, TreeValue, genome_in_tree, id_order, node_at}
 use Rattle.lineage_log.proofs.OrderLemmas.{order_finds}
 use Rattle.lineage_log.proofs.NodeLemmas.{is_some_link}
 use Rattle.lineage_log.proofs.KeptLemmas.{genome_there}

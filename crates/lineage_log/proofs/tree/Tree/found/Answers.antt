@@ -1,5 +1,5 @@
 use Rattle.std.proofs.Common.{sym, subst}
-use Rattle.lineage_log.specs.Nodes.{AreNodes, id_order}
+use Rattle.lineage_log.proofs.Prelude.{AreNodes, id_order}
 use Rattle.lineage_log.proofs.OrderLemmas.{no_nodes}
 use Rattle.lineage_log.proofs.tree.Tree.found.Goals as goal
 

@@ -1,9 +1,6 @@
 use Rattle.std.proofs.Common.{◌∙◌, ap, sym, length, ℕ, subst}
 use Rattle.std.specs.Prelude.{Contains, IsSome}
-use Rattle.lineage_log.specs.Ancestry.{link_of}
-use Rattle.lineage_log.specs.Trees.{TreeValue, IsPruned}
-use Rattle.lineage_log.specs.Nodes.{NodeValue, id_order, node_at, node_link}
-use Rattle.std.proofs.lemmas.List.{length-map}
+use Rattle.lineage_log.proofs.Prelude.{link_of, TreeValue, IsPruned, NodeValue, id_order, node_at, node_link, length-map}
 use Rattle.lineage_log.proofs.OrderLemmas.{order_length}
 use Rattle.lineage_log.proofs.NodeLemmas.{is_some_link}
 use Rattle.lineage_log.proofs.LivingLemmas.{lives_there}

@@ -1,10 +1,6 @@
 use Rattle.std.proofs.Common.{◌≡◌, ◌++◌, ◌∙◌, ap, sym, reverse, List, [], ◌∷◌, append-nil, subst, true≢false, suc, ℕ, Option, Some, None, arith}
 use Rattle.std.specs.Prelude.{IfSome, IsSome, is_some}
-use Rattle.std.specs.Option.{option_map_or}
-use Rattle.lineage_log.specs.Links.{Link}
-use Rattle.lineage_log.specs.Ancestry.{line_of_descent, link_of}
-use Rattle.lineage_log.specs.Trees.{TreeValue}
-use Rattle.lineage_log.specs.Nodes.{id_order, node_at}
+use Rattle.lineage_log.proofs.Prelude.{option_map_or, Link, line_of_descent, link_of, TreeValue, id_order, node_at}
 use Rattle.lineage_log.proofs.OrderLemmas.{order_finds}
 use Rattle.lineage_log.proofs.NodeLemmas.{is_some_link}
 use Rattle.lineage_log.proofs.KeptLemmas.{back_once, links_back, parent_lower, parent_stands}

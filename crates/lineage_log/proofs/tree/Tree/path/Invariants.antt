@@ -1,7 +1,6 @@
 use Rattle.std.proofs.Common.{◌≡◌, ◌++◌, suc, Some}
 use Rattle.std.specs.Prelude.{IfSome, IsSome}
-use Rattle.std.specs.Option.{option_map_or}
-use Rattle.lineage_log.specs.Nodes.{id_order, node_at}
+use Rattle.lineage_log.proofs.Prelude.{option_map_or, id_order, node_at}
 use Rattle.lineage_log.proofs.KeptLemmas.{links_back}
 use Rattle.lineage_log.proofs.tree.Tree.path.Given as goal
 

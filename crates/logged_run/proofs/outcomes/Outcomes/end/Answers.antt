@@ -1,5 +1,5 @@
 use Rattle.std.proofs.Common.{refl}
-use Rattle.std.proofs.lemmas.Result.{err_from_is_err_and}
+use Rattle.logged_run.proofs.Prelude.{err_from_is_err_and}
 use Rattle.logged_run.proofs.outcomes.Outcomes.end.Goals as goal
 
 pub returns-in_err-progress : goal.returns-in_err-progress

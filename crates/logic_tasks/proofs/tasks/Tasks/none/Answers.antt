@@ -1,5 +1,5 @@
 use Rattle.std.proofs.Common.{refl}
-use Rattle.logic_tasks.specs.TaskBits.{tasks_of}
+use Rattle.logic_tasks.specs.LogicTasks.{tasks_of}
 use Rattle.logic_tasks.proofs.tasks.Tasks.none.Goals as goal
 
 pub returns : goal.returns

@@ -1,8 +1,5 @@
 use Rattle.std.proofs.Common.{◌∙◌, refl, ap, subst, length}
-use Rattle.divide_rules.specs.Rules.{rule_numbers}
-use Rattle.genome.specs.Genome.{letters}
-use Rattle.virtual_cpu.specs.Machine.{IsMachine}
-use Rattle.organism.specs.OrganismState.{OrganismState}
+use Rattle.organism.proofs.Prelude.{rule_numbers, letters, IsMachine, OrganismState}
 use Rattle.organism.proofs.DivideLemmas.{viable-divide}
 use Rattle.organism.proofs.organism.Organism.after_question.Goals as goal
 

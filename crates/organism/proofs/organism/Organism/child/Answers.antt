@@ -1,9 +1,5 @@
 use Rattle.std.proofs.Common.{length, sym, ◌≡◌, ℕ, ap, ◌∙◌, arith}
-use Rattle.genome.specs.Genome.{letters}
-use Rattle.random_streams.specs.RandomStream.{word_of}
-use Rattle.organism.specs.OrganismState.{OrganismState}
-use Rattle.organism.specs.SettingNumbers.{setting_numbers}
-use Rattle.organism.specs.UpdateLife.{clean_text, written_text}
+use Rattle.organism.proofs.Prelude.{letters, word_of, OrganismState, setting_numbers, clean_text, written_text}
 use Rattle.organism.proofs.BirthLemmas.{IfOk-map2, IfOk-then, OnOk-then, birth_record-of, after_child-of, child_letters-of, child_part-length}
 use Rattle.organism.proofs.organism.Organism.child.Goals as goal
 

@@ -1,9 +1,5 @@
 use Rattle.std.proofs.Common.{◌≡◌, ◌∙◌, sym, ap, List, length}
-use Rattle.instruction_set.specs.declared.letter.Letter.{Letter}
-use Rattle.genome.specs.Genome.{letters}
-use Rattle.virtual_cpu.specs.Machine.{Machine}
-use Rattle.organism.specs.OrganismState.{OrganismState}
-use Rattle.organism.specs.View.{organism_view}
+use Rattle.organism.proofs.Prelude.{Letter, letters, Machine, OrganismState, organism_view}
 use Rattle.organism.proofs.ImageLemmas.{machine-again}
 use Rattle.organism.proofs.organism.Organism.image.Goals as goal
 

@@ -1,6 +1,5 @@
 use Rattle.std.proofs.Common.{◌∙◌, ◌+◌, ap}
-use Rattle.divide_rules.specs.Rules.{rule_numbers}
-use Rattle.organism.specs.OrganismState.{OrganismState}
+use Rattle.organism.proofs.Prelude.{rule_numbers, OrganismState}
 use Rattle.organism.proofs.StepLemmas.{letter-step}
 use Rattle.organism.proofs.organism.Organism.life_step.Goals as goal
 

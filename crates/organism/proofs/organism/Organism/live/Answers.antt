@@ -1,11 +1,5 @@
 use Rattle.std.proofs.Common.{refl, ap, sym, ◌∙◌, ◌+◌, Option}
-use Rattle.instruction_set.specs.declared.letter.Letter.{Letter}
-use Rattle.random_streams.specs.RandomStream.{Stream, word_of}
-use Rattle.organism.specs.Life.{after_letter}
-use Rattle.organism.specs.OrganismState.{OrganismState}
-use Rattle.organism.specs.GoingOn.{life_now}
-use Rattle.organism.specs.SettingNumbers.{setting_numbers}
-use Rattle.organism.specs.UpdateLife.{life_state}
+use Rattle.organism.proofs.Prelude.{Letter, Stream, word_of, after_letter, OrganismState, life_now, setting_numbers, life_state}
 use Rattle.organism.proofs.GoingOnLemmas.{goes_on-quiet}
 use Rattle.organism.proofs.StepLemmas.{step-quiet}
 use Rattle.organism.proofs.organism.Organism.live.Goals as goal

@@ -1,8 +1,5 @@
 use Rattle.std.proofs.Common.{arith, ℕ, Bool, ◌+◌, ◌≡◌, ap, refl, sym, ◌∙◌, true, false}
-use Rattle.random_streams.specs.RandomStream.{Stream, word_of}
-use Rattle.organism.specs.declared.ran.Ran.TheVariants.{Died}
-use Rattle.organism.specs.SettingNumbers.{SettingNumbers, setting_numbers}
-use Rattle.organism.specs.UpdateLife.{LifeState, life_state, life_state_after, dies_at}
+use Rattle.organism.proofs.Prelude.{Stream, word_of, Died, SettingNumbers, setting_numbers, LifeState, life_state, life_state_after, dies_at}
 use Rattle.organism.proofs.GoingOnLemmas.{goes_on-more, old-at}
 use Rattle.organism.proofs.UpdateLifeLemmas.{state_after-zero, state-next, dies-now, search-all, search-next, search-here, life-dies}
 use Rattle.organism.proofs.organism.Organism.run.Goals.{After-has_age}

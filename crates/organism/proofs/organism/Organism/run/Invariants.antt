@@ -1,9 +1,5 @@
 use Rattle.std.proofs.Common.{◌≡◌, ◌-◌, ◌*◌}
-use Rattle.std.specs.List.{find, range_with_len}
-use Rattle.random_streams.specs.RandomStream.{word_of}
-use Rattle.organism.specs.GoingOn.{GoesOn, life_now}
-use Rattle.organism.specs.SettingNumbers.{setting_numbers}
-use Rattle.organism.specs.UpdateLife.{life_state, life_state_after, dies_at, death_in}
+use Rattle.organism.proofs.Prelude.{find, range_with_len, word_of, GoesOn, life_now, setting_numbers, life_state, life_state_after, dies_at, death_in}
 use Rattle.organism.proofs.organism.Organism.run.Given as goal
 
 abbrev pub invariant-loop-step : goal.invariant-loop-step

@@ -1,11 +1,5 @@
 use Rattle.std.proofs.Common.{◌≡◌, ◌∙◌, sym, ap, refl, List, ◌+◌, ◌%◌, ◌<◌, length, set, true}
-use Rattle.std.proofs.lemmas.List.{length-map}
-use Rattle.instruction_set.specs.declared.letter.Letter.{Letter}
-use Rattle.label_search.specs.Template.{complements_of, template_after}
-use Rattle.virtual_cpu.specs.SiteLists.{SiteLists}
-use Rattle.virtual_cpu.specs.Machine.{Machine, place_after}
-use Rattle.virtual_cpu.specs.Operands.{template_of, on_template}
-use Rattle.virtual_cpu.specs.View.{machine_view}
+use Rattle.virtual_cpu.proofs.Prelude.{length-map, Letter, complements_of, template_after, SiteLists, Machine, place_after, template_of, on_template, machine_view}
 use Rattle.virtual_cpu.proofs.TemplateLemmas.{template-moved, some-nop}
 use Rattle.virtual_cpu.proofs.cpu.Cpu.read_complement.Goals as goal
 

@@ -1,6 +1,6 @@
 use Rattle.std.proofs.Common.{◌∙◌, ap, arith, ◌++◌, replicate}
 use Rattle.std.specs.Prelude.{vec_capacity}
-use Rattle.virtual_cpu.specs.SiteLists.{SiteLists, with_places}
+use Rattle.virtual_cpu.proofs.Prelude.{SiteLists, with_places}
 use Rattle.virtual_cpu.proofs.SiteLemmas.{length-seen, lists-longer}
 use Rattle.virtual_cpu.proofs.sites.Sites.append.Goals as goal
 

@@ -1,7 +1,6 @@
 use Rattle.std.proofs.Common.{◌∙◌, ap, length}
 use Rattle.std.specs.Prelude.{vec_capacity}
-use Rattle.label_search.specs.Site.{letters_of}
-use Rattle.virtual_cpu.specs.SiteLists.{SiteLists}
+use Rattle.virtual_cpu.proofs.Prelude.{letters_of, SiteLists}
 use Rattle.virtual_cpu.proofs.SiteLemmas.{length-seen}
 use Rattle.virtual_cpu.proofs.sites.Sites.as_slice.Goals as goal
 

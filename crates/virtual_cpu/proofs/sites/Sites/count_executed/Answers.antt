@@ -1,8 +1,5 @@
 use Rattle.std.proofs.Common.{◌∙◌, sym, ap, List, take}
-use Rattle.std.proofs.lemmas.List.{take-map}
-use Rattle.label_search.specs.Site.{Site}
-use Rattle.virtual_cpu.specs.Divide.{count_of}
-use Rattle.virtual_cpu.specs.SiteLists.{SiteLists, executed_of}
+use Rattle.virtual_cpu.proofs.Prelude.{take-map, Site, count_of, SiteLists, executed_of}
 use Rattle.virtual_cpu.proofs.sites.Sites.count_executed.Goals as goal
 
 pub returns-clause-count : goal.returns-clause-count

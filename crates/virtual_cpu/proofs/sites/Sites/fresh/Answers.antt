@@ -1,6 +1,6 @@
 use Rattle.std.proofs.Common.{◌≡◌, ◌∙◌, ap, ◌++◌, map}
 use Rattle.std.specs.Prelude.{vec_capacity}
-use Rattle.virtual_cpu.specs.SiteLists.{fresh_site, fresh_lists}
+use Rattle.virtual_cpu.proofs.Prelude.{fresh_site, fresh_lists}
 use Rattle.virtual_cpu.proofs.SiteLemmas.{lists-fresh}
 use Rattle.virtual_cpu.proofs.sites.Sites.fresh.Goals as goal
 

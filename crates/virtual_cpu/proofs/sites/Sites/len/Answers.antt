@@ -1,6 +1,6 @@
 use Rattle.std.proofs.Common.{arith}
 use Rattle.std.specs.Prelude.{vec_capacity}
-use Rattle.std.proofs.lemmas.Grind.{common_steps}
+use Rattle.virtual_cpu.proofs.Prelude.{common_steps}
 use Rattle.virtual_cpu.proofs.SiteLemmas.{length-seen}
 use Rattle.virtual_cpu.proofs.sites.Sites.len.Goals as goal
 

@@ -1,8 +1,6 @@
 use Rattle.std.proofs.Common.{◌∙◌, ap, arith, get_or}
 use Rattle.std.specs.Prelude.{vec_capacity}
-use Rattle.instruction_set.specs.declared.letter.Letter.TheVariants.{NopA}
-use Rattle.label_search.specs.Site.{letters_of}
-use Rattle.virtual_cpu.specs.SiteLists.{SiteLists}
+use Rattle.virtual_cpu.proofs.Prelude.{NopA, letters_of, SiteLists}
 use Rattle.virtual_cpu.proofs.SiteLemmas.{length-seen}
 use Rattle.virtual_cpu.proofs.sites.Sites.letter.Goals as goal
 

@@ -1,8 +1,6 @@
 use Rattle.std.proofs.Common.{◌≡◌, ◌∙◌, ap, arith, get_or, set}
 use Rattle.std.specs.Prelude.{vec_capacity}
-use Rattle.std.proofs.lemmas.Grind.{common_steps}
-use Rattle.label_search.specs.Site.{Site}
-use Rattle.virtual_cpu.specs.SiteLists.{lists_in}
+use Rattle.virtual_cpu.proofs.Prelude.{common_steps, Site, lists_in}
 use Rattle.virtual_cpu.proofs.SiteLemmas.{length-seen, lists-marked}
 use Rattle.virtual_cpu.proofs.sites.Sites.mark_executed.Goals as goal
 

@@ -1,7 +1,5 @@
 use Rattle.std.proofs.Common.{◌≤◌, ◌∙◌, ap, arith, length, false}
-use Rattle.instruction_set.specs.declared.letter.Letter.TheVariants.{NopA}
-use Rattle.label_search.specs.Site.{Site, letters_of}
-use Rattle.virtual_cpu.specs.SiteLists.{clean_of, executed_of, copied_of}
+use Rattle.virtual_cpu.proofs.Prelude.{NopA, Site, letters_of, clean_of, executed_of, copied_of}
 use Rattle.virtual_cpu.proofs.SiteLemmas.{pushed, lists-whole}
 use Rattle.virtual_cpu.proofs.sites.Sites.of_lists.Goals as goal
 

@@ -1,7 +1,6 @@
 use Rattle.std.proofs.Common.{◌≡◌, take}
 use Rattle.std.specs.Prelude.{vec_len, vec_capacity}
-use Rattle.label_search.specs.Site.{letters_of}
-use Rattle.virtual_cpu.specs.SiteLists.{clean_of, executed_of, copied_of}
+use Rattle.virtual_cpu.proofs.Prelude.{letters_of, clean_of, executed_of, copied_of}
 use Rattle.virtual_cpu.proofs.sites.Sites.of_lists.Given as goal
 
 -- the sites so far

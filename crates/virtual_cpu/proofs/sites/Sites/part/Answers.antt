@@ -1,6 +1,5 @@
 use Rattle.std.proofs.Common.{ap}
-use Rattle.label_search.specs.Site.{Site}
-use Rattle.virtual_cpu.specs.SiteLists.{SiteLists}
+use Rattle.virtual_cpu.proofs.Prelude.{Site, SiteLists}
 use Rattle.virtual_cpu.proofs.SiteLemmas.{part}
 use Rattle.virtual_cpu.proofs.sites.Sites.part.Goals as goal
 

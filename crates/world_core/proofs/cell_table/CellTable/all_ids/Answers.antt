@@ -1,6 +1,5 @@
 use Rattle.std.proofs.Common.{◌∙◌, ◌<◌, ◌++◌, [], ◌∷◌, None, ap, length, map, sym, arith}
-use Rattle.std.proofs.lemmas.List.{map_more, take_all}
-use Rattle.world_rules.specs.World.{id_of}
+use Rattle.world_core.proofs.Prelude.{map_more, take_all, id_of}
 use Rattle.world_core.proofs.cell_table.CellTable.all_ids.Goals as goal
 
 pub loop-cell-init : goal.loop-cell-init

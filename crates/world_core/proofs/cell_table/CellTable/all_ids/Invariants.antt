@@ -1,6 +1,6 @@
 use Rattle.std.proofs.Common.{◌≡◌, map, take}
 use Rattle.std.specs.Prelude.{vec_len, vec_capacity}
-use Rattle.world_rules.specs.World.{id_of}
+use Rattle.world_core.proofs.Prelude.{id_of}
 use Rattle.world_core.proofs.cell_table.CellTable.all_ids.Given as goal
 
 -- the ids of the cells so far

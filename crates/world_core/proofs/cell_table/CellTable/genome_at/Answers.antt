@@ -1,6 +1,5 @@
 use Rattle.std.proofs.Common.{◌∙◌, Some, ap, sym}
-use Rattle.genome.specs.Genome.{letters}
-use Rattle.world_core.specs.Population.{occupant_genome}
+use Rattle.world_core.proofs.Prelude.{letters, occupant_genome}
 use Rattle.world_core.proofs.CellTableLemmas.{read-slot}
 use Rattle.world_core.proofs.cell_table.CellTable.genome_at.Goals as goal
 

@@ -1,5 +1,5 @@
 use Rattle.std.proofs.Common.{◌∙◌, Some, ap, sym}
-use Rattle.world_rules.specs.World.{id_of}
+use Rattle.world_core.proofs.Prelude.{id_of}
 use Rattle.world_core.proofs.CellTableLemmas.{read-id, read-slot}
 use Rattle.world_core.proofs.cell_table.CellTable.id_at.Goals as goal
 

@@ -1,5 +1,5 @@
 use Rattle.std.proofs.Common.{◌∙◌, ap, sym}
-use Rattle.world_core.specs.CellTables.{occupants_of}
+use Rattle.world_core.proofs.Prelude.{occupants_of}
 use Rattle.world_core.proofs.CellTableLemmas.{AreKeptBeside-none, occupants_of-none}
 use Rattle.world_core.proofs.cell_table.CellTable.none.Goals as goal
 

@@ -1,6 +1,5 @@
 use Rattle.std.proofs.Common.{◌∙◌, List, Option, Some, ap, set}
-use Rattle.std.proofs.lemmas.List.{length-set}
-use Rattle.world_rules.specs.World.{Occupant}
+use Rattle.world_core.proofs.Prelude.{length-set, Occupant}
 use Rattle.world_core.proofs.CellTableLemmas.{AreKeptBeside-set, occupants_of-put}
 use Rattle.world_core.proofs.cell_table.CellTable.put.Goals as goal
 

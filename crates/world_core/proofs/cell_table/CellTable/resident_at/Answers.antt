@@ -1,6 +1,5 @@
 use Rattle.std.proofs.Common.{refl, get_or}
-use Rattle.saved_lines.specs.declared.resident.Resident.{Resident}
-use Rattle.world_core.specs.Resumed.{IsResidentIn}
+use Rattle.world_core.proofs.Prelude.{Resident, IsResidentIn}
 use Rattle.world_core.proofs.CellTableLemmas.{read-id, read-slot, resident_is}
 use Rattle.world_core.proofs.cell_table.CellTable.resident_at.Goals as goal
 

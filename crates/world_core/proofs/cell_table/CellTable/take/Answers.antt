@@ -1,6 +1,5 @@
 use Rattle.std.proofs.Common.{◌∙◌, List, None, Option, ap, refl, set, sym}
-use Rattle.world_rules.specs.Statistics.{organism_in}
-use Rattle.world_rules.specs.World.{Occupant}
+use Rattle.world_core.proofs.Prelude.{organism_in, Occupant}
 use Rattle.world_core.proofs.CellTableLemmas.{AreKeptBeside-set, occupants_of-remove, organism-with, read-slot}
 use Rattle.world_core.proofs.cell_table.CellTable.take.Goals as goal
 

@@ -1,6 +1,5 @@
 use Rattle.std.proofs.Common.{◌∙◌, ap, rules, sym, length}
-use Rattle.genome.specs.Genome.{letters}
-use Rattle.genotype_bank.specs.BankHistory.{with_genome}
+use Rattle.world_core.proofs.Prelude.{letters, with_genome}
 use Rattle.world_core.proofs.GenotypeLemmas.{genotypes-counted, genotypes-different}
 use Rattle.world_core.proofs.genotypes.Genotypes.intern.Goals as goal
 

@@ -1,7 +1,5 @@
 use Rattle.std.proofs.Common.{◌∙◌, ap}
-use Rattle.std.proofs.lemmas.Result.{IfOk-weaker}
-use Rattle.world_rules.specs.Statistics.{dominant_of}
-use Rattle.world_core.specs.Population.{PopulationValue}
+use Rattle.world_core.proofs.Prelude.{IfOk-weaker, dominant_of, PopulationValue}
 use Rattle.world_core.proofs.StatLemmas.{same-members}
 use Rattle.world_core.proofs.population.Population.dominant.Goals as goal
 

@@ -1,4 +1,4 @@
-use Rattle.genome.specs.Genome.{letters}
+use Rattle.world_core.proofs.Prelude.{letters}
 use Rattle.world_core.proofs.KeptOfLemmas.{IsKeptOf-interned}
 use Rattle.world_core.proofs.population.Population.intern.Goals as goal
 

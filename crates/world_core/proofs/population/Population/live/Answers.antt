@@ -1,17 +1,5 @@
 use Rattle.std.proofs.Common.{◌≡◌, ◌∙◌, ◌+◌, ◌<◌, ◌≤◌, ◌^◌, All, List, None, Option, ap, arith, get_or, length, map, subst, sum, sym, ℕ}
-use Rattle.std.proofs.lemmas.List.{length-map}
-use Rattle.cell_shards.specs.CellLives.{round_numbers, standing_in}
-use Rattle.instruction_set.specs.declared.letter.Letter.{Letter}
-use Rattle.merit_slices.specs.Slices.{slices_of}
-use Rattle.world_config.specs.Shown.{values_of}
-use Rattle.world_rules.specs.Lives.{lives_of, merit_in, slices_at}
-use Rattle.world_rules.specs.Update.{Delivery, births_of}
-use Rattle.world_rules.specs.World.{Occupant}
-use Rattle.world_core.specs.Bounds.{AreBounded, AreBoundedLives}
-use Rattle.world_core.specs.CellTables.{occupants_of}
-use Rattle.world_core.specs.Genotypes.{TakesIn}
-use Rattle.world_core.specs.Lived.{birth_by, delivery_in, departure_by}
-use Rattle.world_core.specs.Population.{IsKeptOf, PopulationValue, merit_or_zero, occupant_genome}
+use Rattle.world_core.proofs.Prelude.{length-map, round_numbers, standing_in, Letter, slices_of, values_of, lives_of, merit_in, slices_at, Delivery, births_of, Occupant, AreBounded, AreBoundedLives, occupants_of, IsKeptOf, PopulationValue, merit_or_zero, occupant_genome, TakesIn, birth_by, delivery_in, departure_by}
 use Rattle.world_core.proofs.BoundLemmas.{lives-bounded, lives-keep}
 use Rattle.world_core.proofs.CellTableLemmas.{occupants_of-length}
 use Rattle.world_core.proofs.CountLemmas.{GoesOn}

@@ -1,5 +1,4 @@
-use Rattle.world_core.specs.CellTables.{occupants_of}
-use Rattle.world_core.specs.Population.{IsKeptOf}
+use Rattle.world_core.proofs.Prelude.{occupants_of, IsKeptOf}
 use Rattle.world_core.proofs.CountLemmas.{mixed}
 use Rattle.world_core.proofs.population.Population.live.Given as goal
 

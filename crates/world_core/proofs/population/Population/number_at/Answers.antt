@@ -1,6 +1,6 @@
 use Rattle.std.proofs.Common.{◌≡◌, ◌∙◌, ap, sym, get_or, None, Some, length, ◌<◌}
 use Rattle.std.specs.Prelude.{slice_get}
-use Rattle.world_core.specs.Population.{PopulationValue}
+use Rattle.world_core.proofs.Prelude.{PopulationValue}
 use Rattle.world_core.proofs.CellTableLemmas.{nobody, somebody}
 use Rattle.world_core.proofs.KeptOfLemmas.{key-is, key-read}
 use Rattle.world_core.proofs.population.Population.number_at.Goals as goal

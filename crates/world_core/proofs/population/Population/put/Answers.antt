@@ -1,8 +1,6 @@
 use Rattle.std.proofs.Common.{◌≡◌, get_or, List, ℕ, None, Some, length, ◌<◌}
 use Rattle.std.specs.Prelude.{slice_get}
-use Rattle.instruction_set.specs.declared.letter.Letter.{Letter}
-use Rattle.world_rules.specs.World.{Occupant}
-use Rattle.world_core.specs.Population.{PopulationValue}
+use Rattle.world_core.proofs.Prelude.{Letter, Occupant, PopulationValue}
 use Rattle.world_core.proofs.KeptOfLemmas.{IsKeptOf-put, can-add}
 use Rattle.world_core.proofs.population.Population.put.Goals as goal
 

@@ -1,8 +1,5 @@
 use Rattle.std.proofs.Common.{◌∙◌, ap, List, Option}
-use Rattle.logic_tasks.specs.LogicTasks.{all_tasks}
-use Rattle.world_rules.specs.World.{Occupant}
-use Rattle.world_rules.specs.Statistics.{credited_with, genomes_of_cells, stats_in}
-use Rattle.world_core.specs.Population.{PopulationValue}
+use Rattle.world_core.proofs.Prelude.{all_tasks, Occupant, credited_with, genomes_of_cells, stats_in, PopulationValue}
 use Rattle.world_core.proofs.StatLemmas.{living-in, merits-in, credited-in, genotype-number}
 use Rattle.world_core.proofs.SumLemmas.{cells_with, map_alike}
 use Rattle.world_core.proofs.population.Population.stats.Goals as goal

@@ -1,7 +1,5 @@
 use Rattle.std.proofs.Common.{◌≡◌, ◌∙◌, List, Option, ap, sym, get_or, None, length, ◌<◌}
-use Rattle.world_rules.specs.Statistics.{organism_in}
-use Rattle.world_rules.specs.World.{Occupant}
-use Rattle.world_core.specs.Population.{PopulationValue}
+use Rattle.world_core.proofs.Prelude.{organism_in, Occupant, PopulationValue}
 use Rattle.world_core.proofs.CellTableLemmas.{nobody, somebody}
 use Rattle.world_core.proofs.KeptOfLemmas.{IsKeptOf-empty, IsKeptOf-removed, can-remove, key-read}
 use Rattle.world_core.proofs.population.Population.take.Goals.{in-Some, in_default}

@@ -1,13 +1,5 @@
 use Rattle.std.proofs.Common.{ap, arith, subst, sym, IfOk, ℕ}
-use Rattle.world_config.specs.Shown.{values_of}
-use Rattle.world_config.specs.Values.{ConfigValues}
-use Rattle.world_rules.specs.WorldRun.{world_after}
-use Rattle.world_laws.specs.Keeping.{LiveOn}
-use Rattle.world_tree.specs.WorldTrees.{IsTreeOf}
-use Rattle.world_core.specs.Endings.{IsNext}
-use Rattle.world_core.specs.LateTrees.{IsLateTreeOf}
-use Rattle.world_core.specs.Scenes.{SceneValue}
-use Rattle.world_core.specs.WorldValue.{IsWorldOf, WorldValue}
+use Rattle.world_core.proofs.Prelude.{values_of, ConfigValues, world_after, LiveOn, IsTreeOf, IsNext, IsLateTreeOf, SceneValue, IsWorldOf, WorldValue}
 use Rattle.world_core.proofs.WorldLemmas.{everyone_is, is_late, next_text_is, next_world_is, without_gone}
 use Rattle.world_core.proofs.running_world.RunningWorld.advance.Given as given
 use Rattle.world_core.proofs.running_world.RunningWorld.advance.Goals.{In_ok-scene}

@@ -1,9 +1,5 @@
 use Rattle.std.proofs.Common.{◌≡◌, ◌∙◌, ap, get_or, None, List, subst, sym}
-use Rattle.std.proofs.lemmas.List.{get_or-set_same}
-use Rattle.std.proofs.lemmas.Result.{on_ok_weaker}
-use Rattle.instruction_set.specs.declared.letter.Letter.{Letter}
-use Rattle.world_core.specs.Bounds.{CanStand}
-use Rattle.world_core.specs.Scenes.{SceneValue}
+use Rattle.world_core.proofs.Prelude.{get_or-set_same, on_ok_weaker, Letter, CanStand, SceneValue}
 use Rattle.world_core.proofs.ComingLemmas.{died_is, left_scene, put_over_is}
 use Rattle.world_core.proofs.scene.Scene.put_over.Goals.{In_ok-kill}
 use Rattle.world_core.proofs.scene.Scene.put_over.Goals as goal

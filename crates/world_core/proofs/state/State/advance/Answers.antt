@@ -1,14 +1,5 @@
 use Rattle.std.proofs.Common.{◌≡◌, ◌∙◌, ◌<◌, ap, subst, sym, arith}
-use Rattle.lineage_log.specs.LogGrammar.{lines_text}
-use Rattle.saved_worlds.specs.Resuming.{next_state, next_text}
-use Rattle.saved_worlds.specs.SavedState.{SavedState}
-use Rattle.world_config.specs.Shown.{values_of}
-use Rattle.world_config.specs.Values.{ConfigValues}
-use Rattle.world_laws.specs.Keeping.{LiveOn}
-use Rattle.world_rules.specs.LogText.{update_lines}
-use Rattle.world_rules.specs.Update.{world_of}
-use Rattle.world_core.specs.Resumed.{IsState, state_in}
-use Rattle.world_core.specs.Scenes.{scene_in}
+use Rattle.world_core.proofs.Prelude.{lines_text, next_state, next_text, SavedState, values_of, ConfigValues, LiveOn, update_lines, world_of, IsState, state_in, scene_in}
 use Rattle.world_core.proofs.ResumeLemmas.{GoOnLaws, LeadsTo, go_on_laws, goes_on, state_is, text_is}
 use Rattle.world_core.proofs.state.State.advance.Goals as goal
 

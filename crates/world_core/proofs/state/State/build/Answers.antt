@@ -1,10 +1,5 @@
 use Rattle.std.proofs.Common.{◌∙◌, List, ap, map}
-use Rattle.saved_lines.specs.SavedValues.{head_values}
-use Rattle.saved_lines.specs.declared.resident.Resident.{Resident}
-use Rattle.saved_worlds.specs.Resuming.{world_of_state}
-use Rattle.saved_worlds.specs.SavedGrammar.{state_of_lines}
-use Rattle.saved_worlds.specs.ValidState.{placed_in}
-use Rattle.world_config.specs.Shown.{values_of}
+use Rattle.world_core.proofs.Prelude.{head_values, Resident, world_of_state, state_of_lines, placed_in, values_of}
 use Rattle.world_core.proofs.BuildLemmas.{state_built}
 use Rattle.world_core.proofs.state.State.build.Goals as goal
 

@@ -1,9 +1,5 @@
 use Rattle.std.proofs.Common.{◌∙◌, List, ap, subst}
-use Rattle.instruction_set.specs.declared.letter.Letter.{Letter}
-use Rattle.genotype_bank.specs.BankHistory.{HasEachOnce}
-use Rattle.world_rules.specs.World.{World}
-use Rattle.world_core.specs.Genotypes.{genomes_ever}
-use Rattle.world_core.specs.WorldValue.{WorldValue, world_in}
+use Rattle.world_core.proofs.Prelude.{Letter, HasEachOnce, World, genomes_ever, WorldValue, world_in}
 use Rattle.world_core.proofs.world.World.bank_len.Goals as goal
 
 pub returns-clause-each : goal.returns-clause-each

@@ -1,10 +1,7 @@
 use Rattle.std.proofs.Common.{◌∙◌, List, Option, ap, get_or, sym, None, Some}
 use Rattle.std.specs.Prelude.{option_map, slice_get}
-use Rattle.instruction_set.specs.declared.letter.Letter.{Letter}
-use Rattle.world_rules.specs.World.{Occupant, World}
+use Rattle.world_core.proofs.Prelude.{Letter, Occupant, World, occupant_genome, WorldValue, world_in}
 use Rattle.world_core.specs.declared.world.World.TheInside.{Inside}
-use Rattle.world_core.specs.Population.{occupant_genome}
-use Rattle.world_core.specs.WorldValue.{WorldValue, world_in}
 use Rattle.world_core.proofs.world.World.handle_at.Goals as goal
 
 pub returns : goal.returns

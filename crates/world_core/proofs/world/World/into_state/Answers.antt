@@ -1,11 +1,5 @@
 use Rattle.std.proofs.Common.{◌≡◌, ◌∙◌, ℕ, ap, subst, sym}
-use Rattle.world_config.specs.Shown.{values_of}
-use Rattle.world_config.specs.Values.{ConfigValues}
-use Rattle.world_rules.specs.WorldRun.{world_after}
-use Rattle.saved_worlds.specs.SavedState.{state_of, state_of_world}
-use Rattle.saved_worlds.specs.ValidState.{CanGoOn}
-use Rattle.world_core.specs.Scenes.{SceneValue}
-use Rattle.world_core.specs.WorldValue.{WorldValue}
+use Rattle.world_core.proofs.Prelude.{values_of, ConfigValues, world_after, state_of, state_of_world, CanGoOn, SceneValue, WorldValue}
 use Rattle.world_core.proofs.ResumeLemmas.{run_goes_on, run_leaves}
 use Rattle.world_core.proofs.world.World.into_state.Goals as goal
 

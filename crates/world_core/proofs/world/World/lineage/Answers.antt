@@ -1,11 +1,7 @@
 use Rattle.std.proofs.Common.{◌<◌, ◌*◌, ◌∙◌, ap, length, sym, subst, Some}
 use Rattle.std.specs.Prelude.{option_map}
-use Rattle.world_config.specs.Shown.{values_of}
+use Rattle.world_core.proofs.Prelude.{values_of, World, id_at, world_after, IsStanding, WorldValue, world_in}
 use Rattle.world_rules.specs.Descent.{descent_line_of, line_in}
-use Rattle.world_rules.specs.World.{World, id_at}
-use Rattle.world_rules.specs.WorldRun.{world_after}
-use Rattle.world_laws.specs.Turnover.{IsStanding}
-use Rattle.world_core.specs.WorldValue.{WorldValue, world_in}
 use Rattle.world_core.proofs.IdLemmas.{stands_by_id}
 use Rattle.world_core.proofs.world.World.lineage.Goals as goal
 

@@ -1,9 +1,7 @@
 use Rattle.std.proofs.Common.{◌∙◌, ◌*◌, ◌<◌, ◌≤◌, ap, List, arith}
+use Rattle.world_tree.proofs.Prelude.{founded_by, values_of, founder_link}
 use Rattle.std.proofs.Math.Nat.{mul-le-mul}
 use Rattle.instruction_set.specs.declared.letter.Letter.{Letter}
-use Rattle.lineage_log.specs.Trees.{founded_by}
-use Rattle.world_config.specs.Shown.{values_of}
-use Rattle.world_rules.specs.World.{founder_link}
 use Rattle.world_tree.proofs.SeenLemmas.{tree_found}
 use Rattle.world_tree.proofs.world_tree.WorldTree.found.Goals as goal
 

@@ -1,11 +1,7 @@
 use Rattle.std.proofs.Common.{◌≡◌, ◌∙◌, List, ap, sym, subst}
 use Rattle.std.specs.Prelude.{Contains}
-use Rattle.lineage_log.specs.Links.{Link}
+use Rattle.world_tree.proofs.Prelude.{Link, TreeValue, World, IsNumberedWorld, descent_line_of, IsTreeOf}
 use Rattle.lineage_log.specs.Ancestry as tree
-use Rattle.lineage_log.specs.Trees.{TreeValue}
-use Rattle.world_rules.specs.World.{World}
-use Rattle.world_rules.specs.Descent.{IsNumberedWorld, descent_line_of}
-use Rattle.world_tree.specs.WorldTrees.{IsTreeOf}
 use Rattle.world_tree.proofs.SeenLemmas.{LineLaws, if_ok, path_is}
 use Rattle.world_tree.proofs.world_tree.WorldTree.lineage.Goals as goal
 

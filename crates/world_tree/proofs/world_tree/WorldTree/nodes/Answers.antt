@@ -1,5 +1,5 @@
 use Rattle.std.proofs.Common.{◌∙◌, ap, length}
-use Rattle.lineage_log.specs.Trees.{TreeValue}
+use Rattle.world_tree.proofs.Prelude.{TreeValue}
 use Rattle.world_tree.proofs.SeenLemmas.{links_are}
 use Rattle.world_tree.proofs.world_tree.WorldTree.nodes.Goals as goal
 
