@@ -25,8 +25,7 @@ pub struct Ancestor {
 
 impl Model for Ancestor {
     ghost use Rattle.std.specs.Prelude.{option_map};
-    ghost use Rattle.genome.specs.Genome.{letters};
-    ghost use Rattle.mutations.specs.BirthRecord.{record_of};
+    ghost use Rattle.lineage_log.specs.Prelude.{letters, record_of};
     ghost use Rattle.lineage_log.specs.Ancestry.{Link};
 
     ghost Value = { Link };

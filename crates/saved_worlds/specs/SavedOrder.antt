@@ -62,20 +62,20 @@ may_follow head o image =
 
 -- the organism of its two lines, and its cell
 abbrev pub placed_of : HeadValues → OrganismValues → CpuImage → Placed
-placed_of head o image =
+placed_of head line image =
     record {
-      cell = o.cell;
+      cell = line.cell;
       occupant = record {
-        id = o.id;
+        id = line.id;
         organism = record {
-          genome = o.genome;
-          inputs = o.inputs;
-          merit = o.merit;
-          credited = o.credited;
-          age = o.age;
-          read = o.read;
-          gestation = o.gestation;
-          machine = machine_of_image image (length o.genome) head.memory_limit;
+          genome = line.genome;
+          inputs = line.inputs;
+          merit = line.merit;
+          credited = line.credited;
+          age = line.age;
+          read = line.read;
+          gestation = line.gestation;
+          machine = machine_of_image image (length line.genome) head.memory_limit;
         };
       };
     }

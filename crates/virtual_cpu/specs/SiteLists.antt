@@ -20,6 +20,11 @@ abbrev pub letter_by : Bool → Site → Letter
 letter_by true site = site.clean
 letter_by false site = site.letter
 
+-- whether a site was copied to, or executed
+abbrev pub mark_by : Bool → Site → Bool
+mark_by true site = site.copied
+mark_by false site = site.executed
+
 -- whether some sites were executed
 abbrev pub executed_of : List Site → List Bool
 executed_of sites = map (λ site. site.executed) sites

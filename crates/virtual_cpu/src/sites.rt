@@ -2,7 +2,7 @@
 ghost use Rattle.std.specs.Prelude.{◌≡◌, ◌+◌, ◌-◌, ◌<◌, ◌≤◌, ◌++◌, true, length, map, slice_set, slice_index_or, IfOk, vec_capacity};
 ghost use Rattle.virtual_cpu.specs.Prelude.{NopA, letters_of};
 ghost use Rattle.virtual_cpu.specs.Replication.{count_of, parent_part, child_part};
-ghost use Rattle.virtual_cpu.specs.SiteLists.{clean_of, executed_of, copied_of, letter_by, fresh_site, fresh_lists, with_places, with_copy};
+ghost use Rattle.virtual_cpu.specs.SiteLists.{clean_of, executed_of, copied_of, letter_by, mark_by, fresh_site, fresh_lists, with_places, with_copy};
 
 use crate::reserved::append_copies;
 use avida_port::Memory;
@@ -145,7 +145,7 @@ impl Sites {
         ensures count { result ≡ count_of (parent_part self.now.executed end) }
         ensures bound { result ≤ end }
     {
-        count_executed(&self.items[..end])
+        count_marked(&self.items[..end], false)
     }
 
     /// The sites from one place up to another.
@@ -168,7 +168,7 @@ impl Sites {
         ensures count { result ≡ count_of (child_part self.now.copied from end) }
         ensures bound { result ≤ end - from }
     {
-        count_copied(self.part(from, end))
+        count_marked(self.part(from, end), true)
     }
 
     /// The letters from one place up to another.
@@ -253,27 +253,19 @@ fn refresh(items: &mut Vec<Site>)
     }
 }
 
-// Loops, since the compiler makes them count several sites at once, and a filter's count it doesn't.
-fn count_executed(sites: &[Site]) -> usize
-    ensures count { result ≡ count_of (executed_of sites.now) }
+// A loop, since the compiler makes it count several sites at once, and a filter's count it doesn't.
+#[inline(always)]
+fn count_marked(sites: &[Site], copied: bool) -> usize
+    ensures count { result ≡ count_of (map (mark_by copied) sites.now) }
     ensures bound { result ≤ length sites.now }
 {
     let mut count = 0;
     for site in sites {
-        if site.executed() {
-            count += 1;
-        }
-    }
-    count
-}
-
-fn count_copied(sites: &[Site]) -> usize
-    ensures count { result ≡ count_of (copied_of sites.now) }
-    ensures bound { result ≤ length sites.now }
-{
-    let mut count = 0;
-    for site in sites {
-        if site.copied() {
+        if (if copied {
+            site.copied()
+        } else {
+            site.executed()
+        }) {
             count += 1;
         }
     }

@@ -33,6 +33,7 @@ pub struct Config {
     pub site_delete: u32,
     pub prefer_empty: bool,
     pub need_alloc: bool,
+    /// How much of the parent, and of the child's place, a divide asks to be executed and copied.
     pub executed_percent: u32,
     pub copied_percent: u32,
     pub least_length: u32,

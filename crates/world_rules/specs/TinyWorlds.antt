@@ -1,7 +1,8 @@
 -- Worlds of one cell, for theorems by computation. For example, in `tiny (once (clear 0 0))` an
 -- event clears the only cell at the end of update 1. No public clause of the world cites this file.
 use Rattle.std.specs.Prelude.{ℕ, Bool, true, List, [], ◌∷◌, Some, None, replicate}
-use Rattle.world_rules.specs.Prelude.{Letter, NopA, Line, Count, no_tasks, NewbornValue, OrganismState, EventValue, WhatValue, ConfigValues}
+use Rattle.world_rules.specs.Prelude.{Letter, NopA, Line, no_tasks, NewbornValue, OrganismState, EventValue, WhatValue, ConfigValues}
+use Rattle.log_lines.specs.Forms.{count_form}
 use Rattle.mutations.specs.BirthRecord.{BirthRecord}
 use Rattle.world_rules.specs.World.{founder_link, Scene}
 use Rattle.world_rules.specs.Lives.{CellLife}
@@ -81,12 +82,5 @@ fertile o = founder_life o true (child 0 8 ∷ child 1 16 ∷ [])
 
 -- what is counted in one cell where no task is done
 abbrev pub counts : ℕ → ℕ → ℕ → ℕ → ℕ → ℕ → Line
-counts update living births deaths genotypes merit = Count (record {
-  update = update;
-  living = living;
-  births = births;
-  deaths = deaths;
-  genotypes = genotypes;
-  merit = merit;
-  tasks = replicate 9 0;
-})
+counts update living births deaths genotypes merit = count_form.line
+    (update, (living, (births, (deaths, (genotypes, (merit, replicate 9 0))))))

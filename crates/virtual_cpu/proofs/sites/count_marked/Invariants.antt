@@ -1,11 +1,11 @@
 use Rattle.std.proofs.Common.{◌≡◌, ◌≤◌, take}
 use Rattle.std.specs.Prelude.{count_by}
-use Rattle.virtual_cpu.proofs.Prelude.{Site}
-use Rattle.virtual_cpu.proofs.sites.count_copied.Given as goal
+use Rattle.virtual_cpu.specs.SiteLists.{mark_by}
+use Rattle.virtual_cpu.proofs.sites.count_marked.Given as goal
 
 -- the count so far
 abbrev pub invariant-loop-site : goal.invariant-loop-site
 invariant-loop-site l = record {
-  count : l.count ≡ count_by (λ (s : Site). s.copied) (take l.site-index l.sites);
+  count : l.count ≡ count_by (mark_by l.copied) (take l.site-index l.sites);
   bound : l.count ≤ l.site-index;
 }
