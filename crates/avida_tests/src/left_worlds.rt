@@ -30,17 +30,6 @@ bank of 1
 0 0 wzcagcccccccccccccccccccccccccccccccccccccccccccccccccccccccccccccccccccccccccccccccccccccczvfcaxgab
 end
 ---
-run --watch 0 --workers 64
-=>
-one cell
-=>
-2 nodes
-1 cells
-U 13 1 1 1 1 97 0 0 0 0 0 0 0 0 0
-bank of 1
-0 0 wzcagcccccccccccccccccccccccccccccccccccccccccccccccccccccccccccccccccccccccccccccccccccccczvfcaxgab
-end
----
 lineage 0
 =>
 one cell
@@ -66,7 +55,7 @@ U 10 0 0 0 0 0 0 0 0 0 0 0 0 0 0
 bank of 1
 end
 ---
-run --workers 2
+run --watch 0 --workers 64
 =>
 width = 2
 height = 1

@@ -4,7 +4,7 @@ use Rattle.saved_lines.specs.Prelude.{Letter, letters, RuleNumbers, RateNumbers,
 use Rattle.saved_lines.specs.declared.state_head.StateHead.{StateHead}
 use Rattle.saved_lines.specs.declared.resident.Resident.{Resident}
 
--- the first line: the world's size, how far it is, and what goes on holding in it
+-- the first line: the world's size, how far it is, what goes on in it, and the next update's rates
 pub record HeadValues : Type 0 where
   pub width : ℕ
   pub height : ℕ
@@ -14,7 +14,6 @@ pub record HeadValues : Type 0 where
   pub average_slices : ℕ
   pub death : Bool
   pub age_limit : ℕ
-  -- those of the next update
   pub rates : RateNumbers
   pub prefer_empty : Bool
   pub rules : RuleNumbers

@@ -13,16 +13,19 @@ pub enum SavedLine {
     Count(u64),
 }
 
-/// What the line of an organism says: where it stands, its genome, and the values of its `Image`.
-/// Its machine has a line of its own.
+/// What the line of an organism says. Its machine has a line of its own.
 #[derive(Drop)]
 pub struct OrganismLine {
     pub cell: u32,
     pub id: u64,
     pub merit: u64,
+    /// The tasks that its merit comes from.
     pub credited: Tasks,
+    /// The steps since its birth or its last viable divide.
     pub age: u64,
+    /// How many inputs it has read since then.
     pub read: u64,
+    /// The tasks that it has done since then.
     pub gestation: Tasks,
     pub inputs: Inputs,
     pub genome: Genome,
