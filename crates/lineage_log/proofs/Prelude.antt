@@ -34,7 +34,7 @@ pub use Rattle.std.proofs.lemmas.Option.{get_or_from_slice_get, slice_get-map, s
 pub use Rattle.std.specs.BTreeMap.{insert_entry, is_at}
 pub use Rattle.std.specs.Cmp.{nat_cmp_is, nat_cmp_total, ranked, unsigned_tied}
 pub use Rattle.std.specs.List.{IsDistinct, join_with_byte, onto_first}
-pub use Rattle.std.specs.List.Sorted.{IsStrictlySortedBy}
+unfoldable pub use Rattle.std.specs.List.Sorted.{IsStrictlySortedBy}
 pub use Rattle.std.specs.Map.{remove_entry}
 pub use Rattle.std.specs.Option.{option_map, unwrap_or}
 pub use Rattle.std.specs.Ordering.{eq_by_cmp, is_eq}

@@ -3,6 +3,8 @@ use Rattle.std.proofs.Common.{◌∙◌, ◌-◌, ◌<◌, ◌^◌, ◌≡◌, �
 use Rattle.std.specs.Prelude.{◌==◌}
 use Rattle.organism.proofs.Prelude.{All, LifeNow, GoesOn, SettingNumbers, OrganismState, is_old, age_of_death}
 use Rattle.std.proofs.lemmas.Grind.{common_steps}
+use Rattle.organism.specs.Prelude.{letters}
+use Rattle.organism.specs.declared.newborn.Newborn.{Newborn}
 
 -- one step more
 pub goes_on-more : (settings : SettingNumbers) (steps : ℕ) (start now next : LifeNow)
@@ -29,8 +31,9 @@ goes_on-quiet settings old new age merit genome words births = record {
   taken = omega (arith, words);
   genome = genome;
   merit = λ h. omega (arith, merit, h);
-  merits = λ h. subst (All _) (sym births) h;
-  lengths = λ h. subst (All _) (sym births) h;
+  merits = λ h. subst (All (λ (child : Newborn). child.merit ≤ 2 ^ 38)) (sym births) h;
+  lengths = λ h. subst (All (λ (child : Newborn).
+      length (letters child.genome) ≤ settings.rules.greatest)) (sym births) h;
 }
 
 -- an organism is old just where it has the age of death that it had at the start

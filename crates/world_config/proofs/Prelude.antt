@@ -11,7 +11,8 @@ pub use Rattle.std.proofs.lemmas.Result.{err_from_is_err_and}
 pub use Rattle.std.proofs.lemmas.Str.{IsUtf8-from_is_utf8, IsUtf8-string_bytes, is_utf8-from_IsUtf8}
 pub use Rattle.std.specs.Cmp.Lexicographic.{pointwise}
 pub use Rattle.std.specs.List.{AllByRecursion, position_from}
-pub use Rattle.std.specs.List.Sorted.{IsNonDecreasingBy, IsStrictlySortedBy}
+pub use Rattle.std.specs.List.Sorted.{IsNonDecreasingBy}
+unfoldable pub use Rattle.std.specs.List.Sorted.{IsStrictlySortedBy}
 pub use Rattle.std.specs.String.{string_cmp}
 pub use Rattle.toml.proofs.Views.{Entry, items_view-drop, items_view-push, table_get, view-Table}
 pub use Rattle.toml.specs.Data.{depth, items_depth, members_depth, push_item}

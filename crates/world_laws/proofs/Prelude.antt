@@ -45,7 +45,8 @@ pub use Rattle.world_config.specs.Events.{EventValue, WhatValue, clear, event_fi
 pub use Rattle.world_config.specs.Shown.{values_of}
 pub use Rattle.world_laws.specs.Bounds.{FitsWhat, IsConfig, size_of}
 pub use Rattle.world_laws.specs.LowerLaws.{LifeLaws, LineLaws}
-pub use Rattle.world_laws.specs.Prelude.{AllByRecursion, AreNumbered, AreRules, Birth, ConfigValues, Injected, IsDistinct, IsNumberedWorld, IsSoundOrganism, LifeState, Line, Link, Occupant, OrganismState, Scene, SettingNumbers, World, beginning, descent_line_of, descent_lines_of, draw, line_of_parent}
+pub use Rattle.world_laws.specs.Prelude.{AllByRecursion, AreNumbered, AreRules, Birth, ConfigValues, Injected, IsNumberedWorld, IsSoundOrganism, LifeState, Line, Link, Occupant, OrganismState, Scene, SettingNumbers, World, beginning, descent_line_of, descent_lines_of, draw, line_of_parent}
+unfoldable pub use Rattle.world_laws.specs.Prelude.{IsDistinct}
 pub use Rattle.world_laws.specs.Ranges.{GivesSmallId, HasFewIds, HasKept, HaveOwnIds, IsInRange, LiveOn, StandInRange, StayInRange}
 pub use Rattle.world_laws.specs.Turnover.{AreDescended, ComesFrom, HasBeen, HasGone, IsChildOf, IsDescent, IsLastOfLine, IsStanding, IsTurnover}
 pub use Rattle.world_rules.specs.Descent.{IsBelow}

@@ -7,7 +7,8 @@ pub use Rattle.organism.specs.OrganismState.{OrganismState, new_organism}
 pub use Rattle.organism.specs.SettingNumbers.{SettingNumbers}
 pub use Rattle.organism.specs.UpdateLife.{LifeState, life}
 pub use Rattle.random_streams.specs.RandomStream.{draw}
-pub use Rattle.std.specs.List.{AllByRecursion, IsDistinct}
+pub use Rattle.std.specs.List.{AllByRecursion}
+unfoldable pub use Rattle.std.specs.List.{IsDistinct}
 pub use Rattle.world_config.specs.Values.{ConfigValues}
 pub use Rattle.world_rules.specs.Descent.{AreNumbered, IsNumberedWorld, descent_line_of, descent_lines_of, line_in, line_of_parent}
 pub use Rattle.world_rules.specs.World.{Occupant, Scene, World}

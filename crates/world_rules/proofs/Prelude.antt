@@ -6,7 +6,7 @@ unfoldable pub use Rattle.organism.specs.Life.{life_step}
 unfoldable pub use Rattle.organism.specs.Lived.{life_by}
 unfoldable pub use Rattle.organism.specs.OrganismState.{new_organism}
 unfoldable pub use Rattle.organism.specs.UpdateLife.{after_step, death_in, life, life_state_after}
-pub use Rattle.std.specs.Fmt.{digits}
+unfoldable pub use Rattle.std.specs.Fmt.{digits}
 pub use Rattle.std.specs.List.{AllByRecursion}
 unfoldable pub use Rattle.virtual_cpu.specs.Step.{step}
 pub use Rattle.world_rules.specs.Descent.{AreNumbered, HasPlaceAsId, IsBelow, IsNumberedWorld, descent_line_of, line_of_parent, with_descent_line}
