@@ -1,5 +1,5 @@
 -- The texts of a list's items, which go through a held piece one after another.
-use Rattle.std.proofs.Common.{◌≡◌, ◌<◌, ◌+◌, ℕ, List, [], ◌++◌, Result, Ok, Err, refl, add-one, append-nil, arith, take, drop, get_or, length, take-append-drop}
+use Rattle.std.proofs.Common.{◌≡◌, ◌<◌, ◌+◌, ℕ, List, [], ◌∷◌, ◌++◌, Result, Ok, Err, refl, ap, map, add-one, append-nil, arith, take, drop, get_or, length, take-append-drop}
 use Rattle.avida_program.proofs.Prelude.{flat_map, flat_map-append, SinkStop, SinkState, Writes, WritesAll, write_stop_of, writes_short, writes_then}
 use Rattle.std.proofs.Math.Seq.{take-suc}
 use Rattle.std.proofs.lemmas.List.{take_all}
@@ -15,6 +15,12 @@ texts_next text xs i d h = rw (add-one, take-suc xs i d h, flat_map-append, appe
 texts_cut : {X : Type 0} (text : X → List ℕ) (xs : List X) (i : ℕ)
     → flat_map text (take i xs) ++ flat_map text (drop i xs) ≡ flat_map text xs
 texts_cut text xs i = rw (← flat_map-append, take-append-drop) refl
+
+-- the texts of the items' values
+pub texts_of_values : {X Y : Type 0} (text : Y → List ℕ) (value : X → Y) (xs : List X)
+    → flat_map text (map value xs) ≡ flat_map (λ x. text (value x)) xs
+texts_of_values text value [] = refl
+texts_of_values text value (x ∷ xs) = ap (λ l. text (value x) ++ l) (texts_of_values text value xs)
 
 -- the text of the item at this place is written, or stopped
 pub next_written : {X : Type 0} {a b c : SinkState} {old kept new : List ℕ}

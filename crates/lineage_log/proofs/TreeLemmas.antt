@@ -1,5 +1,5 @@
 -- What the steps of a tree do to its nodes.
-use Rattle.std.proofs.Common.{◌≡◌, ◌≢◌, ◌⊎◌, inl, inr, ◌∙◌, refl, sym, ap, subst, ℕ, ◌+◌, ◌-◌, ◌<◌, ◌≤◌, true, false, cond, not, ◌&&◌, eqb, List, [], ◌∷◌, Option, Some, None, nat_cmp, arith}
+use Rattle.std.proofs.Common.{◌≡◌, ◌≢◌, ◌⊎◌, inl, inr, ◌∙◌, refl, sym, ap, subst, ℕ, ◌+◌, ◌-◌, ◌<◌, ◌≤◌, true, false, cond, not, ◌&&◌, eqb, Bool, List, [], ◌∷◌, Option, Some, None, nat_cmp, arith}
 use Rattle.std.specs.Prelude.{IsSome, filter}
 use Rattle.lineage_log.proofs.Prelude.{is_at, nat_cmp_total, keys_of, remove_entry, set_value, eq_by_cmp, eq_by_cmp_equiv, common_steps, lookup-remove_entry, lookup-set_value, keys-set_value, sum_by-remove_entry, sum_by-set_value, IsDistinct-from_sorted, Link, NodeValue, AreFamilies, AreNeededBut, IsInFamily, as_child, children_of, links_of, living_ids_of, node_at}
 use Rattle.lineage_log.proofs.NodeLemmas.{Rises, by_key, child_apart, child_counts, child_is, founder_is, one_for, some_of}

@@ -3,7 +3,6 @@ ghost use Rattle.std.specs.Prelude.{◌≡◌, ◌∷◌, [], Some, IfOk, IfSome
 ghost use Rattle.saved_lines.specs.Prelude.{genome_field, given};
 ghost use Rattle.genome.specs.Genome as genome_spec;
 ghost use Rattle.log_lines.specs.Kinds as kinds;
-ghost use Rattle.log_lines.specs.Kinds as rows;
 ghost use Rattle.log_lines.specs.Words.{read_first, words_of};
 ghost use Rattle.saved_lines.specs.SavedFields.{marks, nops, signed};
 ghost use Rattle.saved_lines.specs.SavedTables.{head_ranges, head_row, machine_ranges, machine_row, organism_ranges, organism_row, texts_row};
@@ -117,7 +116,7 @@ fn marks_first<'a>(
 /// The marks that end the line.
 fn marks_last(alloc: Global, rest: Option<&[u8]>) -> Result<Option<Marks>, Memory>
     ensures { IfOk result (λ found. found
-        ≡ rows.read_last marks.read (words_of (option_copied rest.entry))) }
+        ≡ kinds.read_last marks.read (words_of (option_copied rest.entry))) }
 {
     match last_word(rest) {
         Some(word) => fields::marks(alloc, word),
@@ -334,7 +333,7 @@ fn read_machine(alloc: Global, rest: Option<&[u8]>) -> Result<Option<SavedLine>,
 /// The number that ends the line.
 fn count_last(rest: Option<&[u8]>) -> Option<u64>
     ensures { result
-        ≡ (rows.last kinds.large).read (words_of (option_copied rest.entry)) }
+        ≡ (kinds.last kinds.large).read (words_of (option_copied rest.entry)) }
 {
     number(0, u64::MAX, last_word(rest)?)
 }

@@ -1,5 +1,5 @@
 -- The world after an update is again the world of its configuration.
-use Rattle.std.proofs.Common.{◌≡◌, ◌∙◌, refl, sym, ap, ℕ, ◌+◌, ◌-◌, ◌<◌, List, [], Result, IfOk, drop, length, add-one, arith, rules}
+use Rattle.std.proofs.Common.{◌≡◌, ◌∙◌, refl, sym, ap, ℕ, ◌+◌, ◌-◌, ◌<◌, ◌≤◌, List, [], Result, IfOk, drop, length, add-one, arith, rules}
 use Rattle.world_core.proofs.Prelude.{IfOk-at_ok, Link, TreeValue, lines_text, Stats, ConfigValues, Scene, World, next_scene, next_world, world_of, world_after, next_stats, stats_of, update_lines, update_text, IsTreeOf, newcomers_of, scene_after, IsNext, IsLateTreeOf, IsLeftBehind, SceneValue, scene_in, IsWorldOf}
 use Rattle.world_config.specs.declared.limits.TheConstants.{GREATEST_UPDATES}
 use Rattle.world_core.specs.declared.late_tree.LateTree.{LateTree}
