@@ -159,7 +159,7 @@ module _ {config : ConfigValues} {update : ℕ} {cells : List (Option Occupant)}
       nobody = λ none. absurd cc;
       genome = λ old next a b. cc;
       merit = λ next b. (let here : o.organism ≡ next = cc in
-          rw (← here) bounded.merit);
+          rw (← here) bounded.1);
     }
 
     by : (b : Bool) (slot : Option Occupant) → IsBoundedIn update slot
