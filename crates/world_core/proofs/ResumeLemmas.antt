@@ -1,6 +1,6 @@
 -- A saved world goes on as its run would.
 use Rattle.std.proofs.Common.{◌≡◌, ◌∙◌, sym, ap, subst, ℕ, ◌+◌, ◌≤◌, List, Option, length, replicate, arith}
-use Rattle.world_core.proofs.Prelude.{length-replicate, Link, lines_text, Stats, forgotten, next_state, next_text, SavedState, head_at, state_of, state_of_world, CanGoOn, ConfigValues, update_lines, next_scene, next_world, world_of, Occupant, World, world_after, IsState, KeepsPast, state_in, SceneValue, scene_in, IsWorldOf}
+use Rattle.world_core.proofs.Prelude.{length-replicate, Link, lines_text, Stats, forgotten, next_state, next_text, SavedState, head_at, state_of, state_of_world, CanGoOn, ConfigValues, update_lines, next_scene, next_world, world_of, Occupant, World, world_after, IsState, KeepsPast, state_in, SceneValue, scene_in, IsWorldOf, WorldValue}
 use Rattle.world_core.proofs.WorldLemmas.{world_of-next}
 
 -- the update and all organisms ever stay once more
@@ -78,8 +78,16 @@ go_on_laws config other same state text = record {
   text = rw (← same) text;
 }
 
+-- a world whose updates are over
 module _ (config : ConfigValues) (scene : SceneValue) (stats : Stats)
-    (is : IsWorldOf config scene stats) (ended : scene.update ≡ config.updates) where
+    (is : IsWorldOf config scene stats) (v : WorldValue)
+    (shown : record { config = config; update = scene.update; bank = scene.bank } ≡ v)
+    (over : v.update ≡ v.config.updates) where
+  -- its update is the last of its configuration
+  ended : scene.update ≡ config.updates
+  ended = ap (λ (v : WorldValue). v.update) shown ∙ over
+      ∙ ap (λ (v : WorldValue). v.config.updates) (sym shown)
+
   -- what a run leaves is settled and can go on
   pub run_goes_on : CanGoOn (state_of_world config (world_after config scene.update))
       → IsState config scene
@@ -90,7 +98,8 @@ module _ (config : ConfigValues) (scene : SceneValue) (stats : Stats)
   }
 
   -- it is the state of its configuration
-  pub run_leaves : state_in config scene ≡ state_of config
+  pub run_leaves : state_in config scene ≡ state_of v.config
   unfolding state_of
   run_leaves = ap (state_of_world config) is.world
       ∙ ap (λ n. state_of_world config (world_after config n)) ended
+      ∙ ap (λ (v : WorldValue). state_of v.config) shown

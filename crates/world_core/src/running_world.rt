@@ -7,7 +7,7 @@ ghost use Rattle.world_core.specs.Scenes.{WorldValue};
 use crate::late_tree::LateTree;
 use crate::scene::Scene;
 use crate::updating::next_scene;
-use crate::world::World;
+use crate::world::{Present, World};
 use avida_port::{Gate, Memory};
 use log_lines::Stats;
 use std::alloc::Global;
@@ -22,30 +22,19 @@ use world_tree::WorldTree;
 /// other threads have begun with the cells. Only `World::into_running` and `advance` make one.
 #[derive(Drop)]
 pub struct RunningWorld {
-    pub(crate) config: Arc<Config, Global>,
-    pub(crate) scene: Scene,
-    pub(crate) stats: Stats,
+    pub(crate) present: Present,
     pub(crate) tree: LateTree,
-    pub(crate) workers: u32,
 }
 
 impl Model for RunningWorld {
-    ghost use Rattle.std.specs.Prelude.{◌≤◌};
-    ghost use Rattle.world_config.specs.Shown.{values_of};
     ghost use Rattle.world_core.specs.LateTrees.{IsLateTreeOf};
-    ghost use Rattle.world_core.specs.Scenes.{WorldValue, IsWorldOf};
+    ghost use Rattle.world_core.specs.Scenes.{WorldValue};
 
     ghost Value = { WorldValue };
 
-    ghost view = { λ w. record {
-      config = values_of w.config.value;
-      update = w.scene.update;
-      bank = w.scene.bank;
-    } };
+    ghost view = { λ w. w.present };
 
-    ghost invariant = { λ w. IsWorldOf (values_of w.config.value) w.scene w.stats
-        × (1 ≤ w.workers) × (w.workers ≤ 64)
-        × IsLateTreeOf (values_of w.config.value) w.scene.update w.tree };
+    ghost invariant = { λ w. IsLateTreeOf w.present.config w.present.update w.tree };
 }
 
 impl RunningWorld {
@@ -65,13 +54,13 @@ impl RunningWorld {
             (λ next. next.1.items ≡ update_text self.config (self.update + 1)) }
         ensures bank { IfOk result (λ next. IsPrefix self.bank next.0.bank) }
     {
-        let RunningWorld {
+        let RunningWorld { present, tree } = self;
+        let Present {
             config,
             scene,
-            tree,
             workers,
             ..
-        } = self;
+        } = present;
         let update = scene.update;
         let rules: &Config = &config;
         organisms_live_on(rules, update);
@@ -83,42 +72,30 @@ impl RunningWorld {
             rt, alloc, rules, scene, workers, gate, grow,
         )?;
         let tree = left_behind(alloc, &config, &mut scene, grown)?;
-        let world = RunningWorld {
+        let present = Present {
             config,
             scene,
             stats,
-            tree,
             workers,
         };
-        Ok((world, text))
+        Ok((RunningWorld { present, tree }, text))
     }
 
     /// What is counted after this update.
     pub fn stats(&self) -> Stats
         ensures { result ≡ stats_of self.now.config self.now.update }
     {
-        self.stats
+        self.present.stats
     }
 
     /// The world as it stands, whose tree has grown. After `Memory` no world is left.
     pub fn into_world(self) -> Result<World, Memory>
         ensures { IfOk result (λ world. world ≡ self) }
     {
-        let RunningWorld {
-            config,
-            scene,
-            stats,
-            tree,
-            workers,
-        } = self;
-        let tree = tree.grown(&config, scene.update)?;
-        Ok(World {
-            config,
-            scene,
-            stats,
-            tree,
-            workers,
-        })
+        let RunningWorld { present, tree } = self;
+        let now = &present;
+        let tree = tree.grown(&now.config, now.scene.update)?;
+        Ok(World { present, tree })
     }
 }
 

@@ -1,8 +1,9 @@
 // A world.
-ghost use Rattle.std.specs.Prelude.{◌≡◌, ◌+◌, ◌*◌, ◌<◌, ◌≤◌, IfOk, Some, length, option_map, slice_get, None, slice_index_or};
-ghost use Rattle.world_core.specs.Prelude.{IsPrefix, letters, HasEachOnce, line_text, state_of, values_of, head_text, update_text, end_text, stats_of, living_and_ancestors};
+ghost use Rattle.std.specs.Prelude.{◌≡◌, ◌+◌, ◌*◌, ◌<◌, ◌≤◌, IfOk, IfSome, Some, length, option_map, slice_get, None, slice_index_or};
+ghost use Rattle.world_core.specs.Prelude.{IsPrefix, letters, HasEachOnce, line_text, state_of, values_of, head_text, update_text, end_text, stats_of, living_and_ancestors, id_at};
 ghost use Rattle.log_lines.specs.Line as line_spec;
 ghost use Rattle.world_rules.specs.Descent.{line_in};
+ghost use Rattle.world_laws.specs.Turnover.{IsStanding};
 ghost use Rattle.world_core.specs.Scenes.{genomes_ever, WorldValue, world_in};
 ghost use Rattle.world_core.specs.Population.{occupant_genome};
 
@@ -26,22 +27,18 @@ use world_config::Config;
 use world_rules::laws::ids_are_places;
 use world_tree::WorldTree;
 
-/// The world of a configuration after some number of updates. Only `found`, `advance` and
-/// `RunningWorld::into_world` make one.
+/// A world without the tree of its past.
 #[derive(Drop)]
-pub struct World {
+pub(crate) struct Present {
     pub(crate) config: Arc<Config, Global>,
     pub(crate) scene: Scene,
     pub(crate) stats: Stats,
-    pub(crate) tree: WorldTree,
     pub(crate) workers: u32,
 }
 
-impl Model for World {
+impl Model for Present {
     ghost use Rattle.std.specs.Prelude.{◌≤◌};
     ghost use Rattle.world_config.specs.Shown.{values_of};
-    ghost use Rattle.world_rules.specs.WorldRun.{world_after};
-    ghost use Rattle.world_tree.specs.WorldTrees.{IsTreeOf};
     ghost use Rattle.world_core.specs.Scenes.{WorldValue, IsWorldOf};
 
     ghost Value = { WorldValue };
@@ -53,8 +50,55 @@ impl Model for World {
     } };
 
     ghost invariant = { λ w. IsWorldOf (values_of w.config.value) w.scene w.stats
-        × (1 ≤ w.workers) × (w.workers ≤ 64)
-        × IsTreeOf (world_after (values_of w.config.value) w.scene.update) w.tree };
+        × (1 ≤ w.workers) × (w.workers ≤ 64) };
+}
+
+impl Present {
+    /// As `World::bank_len`.
+    fn bank_len(&self) -> u64
+        ensures len { result ≡ length self.now.bank }
+        ensures each { HasEachOnce self.now.bank (genomes_ever (world_in self.now).everyone) }
+    {
+        self.scene.cells.bank_len()
+    }
+
+    /// As `World::handle_at`.
+    fn handle_at(&self, cell: u32) -> Option<u64>
+        requires { cell < self.now.config.width * self.now.config.height }
+        ensures { option_map (λ number. slice_get self.now.bank number) result
+            ≡ option_map (λ genome. Some genome)
+            (occupant_genome (slice_index_or (world_in self.now).cells cell None)) }
+    {
+        self.scene.cells.number_at(cell)
+    }
+
+    /// The id of who stands in the cell.
+    fn standing_at(&self, cell: u32) -> Option<u64>
+        requires { cell < self.now.config.width * self.now.config.height }
+        ensures id { result ≡ id_at (world_in self.now).cells cell }
+        ensures standing { IfSome result (λ id. IsStanding (world_in self.now).cells id) }
+    {
+        self.scene.standing_at(cell)
+    }
+}
+
+/// The world of a configuration after some number of updates. Only `found`, `advance` and
+/// `RunningWorld::into_world` make one.
+#[derive(Drop)]
+pub struct World {
+    pub(crate) present: Present,
+    pub(crate) tree: WorldTree,
+}
+
+impl Model for World {
+    ghost use Rattle.world_tree.specs.WorldTrees.{IsTreeOf};
+    ghost use Rattle.world_core.specs.Scenes.{WorldValue, world_in};
+
+    ghost Value = { WorldValue };
+
+    ghost view = { λ w. w.present };
+
+    ghost invariant = { λ w. IsTreeOf (world_in w.present) w.tree };
 }
 
 impl World {
@@ -74,13 +118,13 @@ impl World {
         let mut scene = first_scene(rt, alloc, &config)?;
         let tree = first_tree(alloc, &config, &mut scene)?;
         let stats = scene.stats(0);
-        Ok(World {
+        let present = Present {
             config,
             scene,
             stats,
-            tree,
             workers,
-        })
+        };
+        Ok(World { present, tree })
     }
 
     /// One update, and its lines, by as many threads as the world has workers. After `Memory` no
@@ -108,20 +152,9 @@ impl World {
     pub fn into_running(self) -> RunningWorld
         ensures { result ≡ self }
     {
-        let World {
-            config,
-            scene,
-            stats,
-            tree,
-            workers,
-        } = self;
-        RunningWorld {
-            config,
-            scene,
-            stats,
-            tree: LateTree::Grown { tree },
-            workers,
-        }
+        let World { present, tree } = self;
+        let tree = LateTree::Grown { tree };
+        RunningWorld { present, tree }
     }
 
     /// What the run leaves, as a saved world, which goes on without events.
@@ -129,12 +162,13 @@ impl World {
         requires { self.update ≡ self.config.updates }
         ensures { result ≡ state_of self.config }
     {
-        let World {
+        let World { present, .. } = self;
+        let Present {
             config,
             scene,
             workers,
             ..
-        } = self;
+        } = present;
         runs_can_go_on(&config, scene.update);
         State {
             config,
@@ -148,12 +182,13 @@ impl World {
     pub fn first_line(&self, alloc: Global) -> Result<Vec<u8>, Memory>
         ensures { IfOk result (λ text. text.items ≡ head_text self.now.config) }
     {
+        let config = &self.present.config;
         let line = LogLine::Start {
             version: LAST_VERSION,
-            width: self.config.width,
-            height: self.config.height,
-            cell: self.config.founder_cell,
-            genome: self.config.ancestor.copy(alloc)?,
+            width: config.width,
+            height: config.height,
+            cell: config.founder_cell,
+            genome: config.ancestor.copy(alloc)?,
         };
         line_alone(alloc, &line)
     }
@@ -164,7 +199,7 @@ impl World {
         ensures { IfOk result (λ text. text.items ≡ end_text self.now.update) }
     {
         let line = LogLine::End {
-            updates: self.scene.update,
+            updates: self.present.scene.update,
         };
         line_alone(alloc, &line)
     }
@@ -173,14 +208,14 @@ impl World {
     pub fn update(&self) -> u32
         ensures { result ≡ self.now.update }
     {
-        self.scene.update
+        self.present.scene.update
     }
 
     /// The number of cells.
     pub fn cells(&self) -> u32
         ensures { result ≡ self.now.config.width * self.now.config.height }
     {
-        self.config.width * self.config.height
+        self.present.config.width * self.present.config.height
     }
 
     /// The number of different genomes of all founders so far and of all births. The bank has each
@@ -189,14 +224,14 @@ impl World {
         ensures len { result ≡ length self.now.bank }
         ensures each { HasEachOnce self.now.bank (genomes_ever (world_in self.now).everyone) }
     {
-        self.scene.cells.bank_len()
+        self.present.bank_len()
     }
 
     /// What is counted after this update.
     pub fn stats(&self) -> Stats
         ensures { result ≡ stats_of self.now.config self.now.update }
     {
-        self.stats
+        self.present.stats
     }
 
     /// What this world shows.
@@ -206,14 +241,15 @@ impl World {
             (λ picture. values_of picture.value.config.value ≡ self.now.config) }
         ensures update { IfOk result (λ picture. picture.value.update ≡ self.now.update) }
     {
-        let stats = &self.stats;
+        let present = &self.present;
+        let stats = &present.stats;
         let picture = WorldPicture {
-            config: Arc::try_clone(&self.config)?,
-            update: self.scene.update,
+            config: Arc::try_clone(&present.config)?,
+            update: present.scene.update,
             living: stats.living,
             genotypes: stats.genotypes,
             merit: stats.merit,
-            dominant: self.scene.cells.dominant()?,
+            dominant: present.scene.cells.dominant()?,
         };
         Ok(Arc::new(alloc, picture)?)
     }
@@ -224,7 +260,7 @@ impl World {
         ensures { option_map (λ genome. letters genome.now) result
             ≡ occupant_genome (slice_index_or (world_in self.now).cells cell None) }
     {
-        self.scene.cells.cells().genome_at(cell as usize)
+        self.present.scene.cells.cells().genome_at(cell as usize)
     }
 
     /// The number of the genome in the cell, which is its place in the bank; None exactly if the
@@ -235,7 +271,7 @@ impl World {
             ≡ option_map (λ genome. Some genome)
             (occupant_genome (slice_index_or (world_in self.now).cells cell None)) }
     {
-        self.scene.cells.number_at(cell)
+        self.present.handle_at(cell)
     }
 
     /// The line of descent of the organism in the cell, its founder first; `Ok(None)` exactly if it
@@ -245,7 +281,7 @@ impl World {
         ensures { IfOk result (λ path. path ≡ line_in (world_in self.now) cell) }
     {
         ids_are_places();
-        match self.scene.standing_at(cell) {
+        match self.present.standing_at(cell) {
             Some(id) => Ok(Some(self.tree.lineage(alloc, id)?)),
             None => Ok(None),
         }

@@ -1,8 +1,8 @@
 use Rattle.std.proofs.Common.{◌∙◌, List, Option, ap, get_or, sym, None, Some}
 use Rattle.std.specs.Prelude.{option_map, slice_get}
 use Rattle.world_core.proofs.Prelude.{Letter, Occupant, World, occupant_genome, WorldValue, world_in}
-use Rattle.world_core.specs.declared.world.World.TheInside.{Inside}
-use Rattle.world_core.proofs.world.World.handle_at.Goals as goal
+use Rattle.world_core.specs.declared.world.Present.TheInside.{Inside}
+use Rattle.world_core.proofs.world.Present.handle_at.Goals as goal
 
 pub returns : goal.returns
 returns c =

@@ -1,6 +1,6 @@
 use Rattle.std.proofs.Common.{◌∙◌, List, ap, subst}
 use Rattle.world_core.proofs.Prelude.{Letter, HasEachOnce, World, genomes_ever, WorldValue, world_in}
-use Rattle.world_core.proofs.world.World.bank_len.Goals as goal
+use Rattle.world_core.proofs.world.Present.bank_len.Goals as goal
 
 pub returns-clause-each : goal.returns-clause-each
 returns-clause-each c =
