@@ -1,6 +1,7 @@
 -- What the proofs of this crate cite from outside most often, passed on from one place.
 pub use Rattle.checkpoint.specs.Prelude.{After, Among, AreSaved, Before, Halfway, HasSavedForm, HeadValues, IsHead, IsMachineLine, IsOrganismLine, Occupant, Placed, SavedLine, SavedPlace, SavedState, are_within, cell_text, head_values, ids_of, is_above, is_new, is_young, may_follow, may_stand, one_saved_piece, organism_values, placed_in, placed_of, slot_text, state_of_lines, taken, told_saved_line, values_of_line, values_of_organism}
-pub use Rattle.checkpoint.specs.Reading.{Ends, IsFaultOf, IsKept, IsWritable, SoFarValue, first_cells_text, saved_place_of, so_far_of}
+pub use Rattle.checkpoint.specs.Reading.{Ends, IsFaultOf, IsWritable, first_cells_text, saved_place_of}
+pub use Rattle.checkpoint.specs.SoFarValue.{IsKept, SoFarValue, so_far_of}
 pub use Rattle.saved_lines.specs.SavedForms.{OneSpelling}
 pub use Rattle.saved_lines.specs.SavedReading.{saved_line_of}
 pub use Rattle.saved_lines.specs.SavedText.{Count, Head, Organism}

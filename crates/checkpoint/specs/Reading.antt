@@ -1,14 +1,10 @@
--- What the reader of a saved world has been told, where it stands and what it answers
--- (docs/FORMATS.md, "Saved worlds").
-use Rattle.std.specs.Prelude.{ℕ, List, Option, take, ◌≡◌, map, not, nat_le, ⊤, Result, Ok, Err}
-use Rattle.checkpoint.specs.Prelude.{Occupant, cell_text, SavedState, values_of_organism, SavedPlace, Before, Among, Halfway, After, state_of_lines, Placed, is_above, is_new, one_saved_piece, HeadValues, head_values, AreSaved, placed_in, CanGoOn, FitsText, SavedLine}
+-- Where the reader of a saved world stands, and what it answers (docs/FORMATS.md, "Saved worlds").
+use Rattle.std.specs.Prelude.{ℕ, List, Option, take, ◌≡◌, ⊤, Result, Ok, Err}
+use Rattle.checkpoint.specs.Prelude.{Occupant, cell_text, SavedState, values_of_organism, SavedPlace, Before, Among, Halfway, After, state_of_lines, one_saved_piece, CanGoOn, FitsText, SavedLine}
 use Rattle.std.specs.List.{enumerate_from, flat_map}
 use Rattle.checkpoint.specs.declared.place.ReadPlace as code
 use Rattle.checkpoint.specs.declared.place.ReadPlace.TheVariants as place
-use Rattle.std.specs.Ordering.{nat_cmp}
-use Rattle.std.specs.BTreeSet.{BTreeSet, contains}
-use Rattle.saved_lines.specs.declared.resident.Resident.{Resident}
-use Rattle.saved_lines.specs.declared.state_head.StateHead.{StateHead}
+use Rattle.checkpoint.specs.SoFarValue.{SoFarValue}
 use Rattle.saved_worlds.specs.declared.saved_stop.SavedStop.{SavedStop}
 use Rattle.saved_worlds.specs.declared.saved_stop.SavedStop.TheVariants as stop
 
@@ -23,24 +19,6 @@ saved_place_of (place.Among so_far) = Among so_far.head so_far.placed
 saved_place_of (place.Halfway half) =
     Halfway half.so_far.head half.so_far.placed (values_of_organism half.organism)
 saved_place_of (place.After so_far) = After (state_of_lines so_far.head so_far.placed)
-
--- the values of the first line, and the organisms in their order
-pub record SoFarValue : Type 0 where
-  pub head : HeadValues
-  pub placed : List Placed
-
--- residents under a head
-abbrev pub so_far_of : StateHead → List Resident → SoFarValue
-so_far_of head residents = record {
-  head = head_values head;
-  placed = map (placed_in (head_values head)) residents;
-}
-
--- a saved world can be made of them, and what is kept of their cells and ids tells which may come
-pub record IsKept (so_far : SoFarValue) (next_cell : ℕ) (ids : BTreeSet ℕ) : Type 0 where
-  pub saved : AreSaved so_far.head so_far.placed
-  pub above : (cell : ℕ) → is_above cell so_far.placed ≡ nat_le next_cell cell
-  pub fresh : (id : ℕ) → is_new id so_far.placed ≡ not (contains nat_cmp ids id)
 
 -- the bytes are read as this fault; running out of memory says nothing of them
 abbrev pub IsFaultOf : SavedStop → Result SavedState SavedStop → Type 0

@@ -25,7 +25,7 @@ pub(crate) struct SoFar {
 }
 
 impl Model for SoFar {
-    ghost use Rattle.checkpoint.specs.Reading.{IsKept, SoFarValue, so_far_of};
+    ghost use Rattle.checkpoint.specs.SoFarValue.{IsKept, SoFarValue, so_far_of};
 
     ghost Value = { SoFarValue };
 
