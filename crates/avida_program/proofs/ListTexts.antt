@@ -1,9 +1,9 @@
 -- The texts of a list's items, which go through a held piece one after another.
 use Rattle.std.proofs.Common.{◌≡◌, ◌<◌, ◌+◌, ℕ, List, [], ◌∷◌, ◌++◌, Result, Ok, Err, refl, ap, map, add-one, append-nil, arith, take, drop, get_or, length, take-append-drop}
-use Rattle.avida_program.proofs.Prelude.{flat_map, flat_map-append, SinkStop, SinkState, Writes, WritesAll, write_stop_of, writes_short, writes_then}
+use Rattle.avida_program.proofs.Prelude.{flat_map, flat_map-append, SinkStop, SinkState, Writes, WritesAll, writes_short, writes_then}
 use Rattle.std.proofs.Math.Seq.{take-suc}
 use Rattle.std.proofs.lemmas.List.{take_all}
-use Rattle.written_texts.specs.declared.stop.WriteStop.TheVariants as stop
+use Rattle.avida_port.specs.declared.sink.SinkStop.TheVariants as stop
 use Rattle.avida_program.proofs.TextEnds.{stopped_within, wanting_within}
 
 -- one more text
@@ -50,7 +50,7 @@ item_short text xs i p = rw (← texts_cut text xs i) (writes_short (flat_map te
 -- a put stopped within the texts
 pub item_stopped : {X : Type 0} {a c : SinkState} {new : List ℕ} {e : SinkStop} (text : X → List ℕ)
     (xs : List X) (i : ℕ) → Writes a c [] new (flat_map text (take i xs)) (Err e)
-    → WritesAll {T = Unit {0}} a c (flat_map text xs) (Err (write_stop_of e))
+    → WritesAll {T = Unit {0}} a c (flat_map text xs) (Err e)
 item_stopped text xs i p =
     stopped_within (flat_map text (drop i xs)) (flat_map text xs) p (texts_cut text xs i)
 

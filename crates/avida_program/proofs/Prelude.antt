@@ -1,5 +1,4 @@
 -- What the proofs of this crate cite from outside most often, passed on from one place.
-pub use Rattle.avida_port.specs.Ports.{Puts}
 pub use Rattle.avida_port.specs.declared.sink.SinkStop.{SinkStop}
 pub use Rattle.avida_program.specs.CommandLine.{command_of, leaves_world, looks_of}
 pub use Rattle.avida_program.specs.Commands.{CarriesOut, Does, Obeys, Reads, ReadsInput, Serves, Watches}
@@ -46,6 +45,4 @@ pub use Rattle.world_rules.specs.WorldRun.{residents_of_world}
 unfoldable pub use Rattle.world_rules.specs.WorldRun.{world_after}
 pub use Rattle.written_texts.proofs.GrowingTexts.{Grows, part_stopped, part_written}
 pub use Rattle.written_texts.proofs.PieceLemmas.{writes_held, writes_short, writes_then}
-pub use Rattle.written_texts.proofs.WriteLemmas.{never_fails, nothing_written, put_ended, stopped_same, writes_nothing, writes_same}
-pub use Rattle.written_texts.specs.WrittenText.{write_stop_of}
-pub use Rattle.written_texts.specs.declared.stop.WriteStop.{WriteStop}
+pub use Rattle.written_texts.proofs.WriteLemmas.{never_fails, nothing_written, put_ended, put_written, stopped_same, writes_nothing, writes_same}

@@ -1,8 +1,8 @@
 -- How a command ends that reads an input and writes a text of it.
 use Rattle.std.proofs.Common.{◌≡◌, ◌↔◌, ◌⊎◌, ℕ, List, false, Option, None, Result, Ok, Err, IsErrAnd, OnErr, refl, inl, inr, sym, subst}
 use Rattle.std.specs.Prelude.{⊤}
-use Rattle.avida_program.proofs.Prelude.{SinkState, SourceState, PutFailed, Change, Stays, change, unchanged, WritesAll, WriteStop, CallError, Command, Refusal, OnBytes, SourceFailed, Work, WritesText, GivesInput, GivesNoInput, ReadsAndWrites, ended_by, leaves_world, looks_of, CarriesOut, Does, Reads, ReadsInput, GivenBy, IsInputWith, Ended}
-use Rattle.written_texts.specs.declared.stop.WriteStop.TheVariants as stop
+use Rattle.avida_program.proofs.Prelude.{SinkState, SourceState, PutFailed, Change, Stays, change, unchanged, WritesAll, SinkStop, CallError, Command, Refusal, OnBytes, SourceFailed, Work, WritesText, GivesInput, GivesNoInput, ReadsAndWrites, ended_by, leaves_world, looks_of, CarriesOut, Does, Reads, ReadsInput, GivenBy, IsInputWith, Ended}
+use Rattle.avida_port.specs.declared.sink.SinkStop.TheVariants as stop
 use Rattle.avida_program.specs.declared.call_error.CallError.TheVariants as error
 
 -- a fault has its cause
@@ -49,7 +49,7 @@ not_read {input_of = input_of} {source = source} {ended = ended} e is h =
     record { by_input = inl (refl, gives_error ended (GivesNoInput input_of source) e is h) }
 
 -- a text is written, or stops
-pub text_ended : {T : Type 0} {a b : SinkState} (text : List ℕ) (r : Result T WriteStop)
+pub text_ended : {T : Type 0} {a b : SinkState} (text : List ℕ) (r : Result T SinkStop)
     → WritesAll a b text r → WritesText text (change a b) (ended_by r)
 text_ended text (Ok t) wrote = wrote.ok
 text_ended text (Err stop.Fault) wrote = (wrote.fault refl, wrote.err)
@@ -57,7 +57,7 @@ text_ended text (Err stop.Memory) wrote = wrote.err
 
 -- an input was read, and its text is written, or stops
 pub read_and_wrote : {A T : Type 0} {input_of : List ℕ → Result A Refusal} {text_of : A → List ℕ}
-    {source : Change SourceState} {a b : SinkState} {input : A} {r : Result T WriteStop}
+    {source : Change SourceState} {a b : SinkState} {input : A} {r : Result T SinkStop}
     {ended : Ended} → GivesInput input_of source input → WritesAll a b (text_of input) r
     → ended ≡ ended_by r → ReadsAndWrites input_of text_of source (change a b) ended
 read_and_wrote {text_of = text_of} {a = a} {b = b} {input = input} {r = r} read wrote is =

@@ -1,6 +1,6 @@
 -- How a saved world goes on, and how what it writes adds up.
 use Rattle.std.proofs.Common.{◌≡◌, ◌<◌, ◌+◌, ℕ, zero, suc, Result, Ok, Err, refl, sym, ap, ◌∙◌, add-zero, add-one, arith, subst}
-use Rattle.avida_program.proofs.Prelude.{SinkState, SavedState, config_of_head, continued_text, later_texts, next_state, next_text, saved_state_after, world_of_state, next_update, end_text, WriteStop, WritesAll, Grows, part_stopped, part_written}
+use Rattle.avida_program.proofs.Prelude.{SinkState, SavedState, config_of_head, continued_text, later_texts, next_state, next_text, saved_state_after, world_of_state, next_update, end_text, SinkStop, WritesAll, Grows, part_stopped, part_written}
 use Rattle.written_texts.proofs.WriteLemmas.{writes_short, writes_then}
 
 -- one update more
@@ -35,7 +35,7 @@ later_grows : (state : SavedState) (more : ℕ)
 later_grows state more n within = ap (later_texts state) (add-one n)
 
 -- one more update is written, or stopped
-pub next_written : {T : Type 0} {a b c : SinkState} {r : Result T WriteStop}
+pub next_written : {T : Type 0} {a b c : SinkState} {r : Result T SinkStop}
     (state here : SavedState) (more n : ℕ) → n < more → here ≡ saved_state_after state n
     → WritesAll {T = Unit {0}} a b (later_texts state n) (Ok tt) → WritesAll b c (next_text here) r
     → WritesAll a c (later_texts state (n + 1)) r
@@ -45,7 +45,7 @@ next_written {T = T} {b = b} {c = c} {r = r} state here more n within at p q =
     (subst (λ (s : SavedState). WritesAll {T = T} b c (next_text s) r) at q)
 
 -- an update stopped before the last one
-pub next_stopped : {T U : Type 0} {a b c : SinkState} {e : WriteStop}
+pub next_stopped : {T U : Type 0} {a b c : SinkState} {e : SinkStop}
     (state here : SavedState) (more n : ℕ) → n < more → here ≡ saved_state_after state n
     → WritesAll {T = Unit {0}} a b (later_texts state n) (Ok tt)
     → WritesAll {T = T} b c (next_text here) (Err e)
@@ -56,14 +56,14 @@ next_stopped {T = T} {b = b} {c = c} {e = e} state here more n within at p q =
     (subst (λ (s : SavedState). WritesAll {T = T} b c (next_text s) (Err e)) at q)
 
 -- the updates stopped
-pub updates_stopped : {T U : Type 0} {a b : SinkState} {e : WriteStop} (state : SavedState)
+pub updates_stopped : {T U : Type 0} {a b : SinkState} {e : SinkStop} (state : SavedState)
     (more : ℕ) → WritesAll {T = T} a b (later_texts state more) (Err e)
     → WritesAll {T = U} a b (continued_text state more) (Err e)
 unfolding continued_text
 updates_stopped state more p = writes_short (end_text (state.head.update + more)) p
 
 -- the last line is written, or stopped
-pub end_written : {T U : Type 0} {a b c : SinkState} {u : U} {r : Result T WriteStop}
+pub end_written : {T U : Type 0} {a b c : SinkState} {u : U} {r : Result T SinkStop}
     (state after : SavedState) (more at : ℕ)
     → WritesAll {T = U} a b (later_texts state more) (Ok u) → WritesAll b c (end_text at) r
     → after ≡ saved_state_after state more → at ≡ after.head.update

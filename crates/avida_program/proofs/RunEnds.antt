@@ -1,10 +1,10 @@
 -- A run whose configuration was read, by how it ended.
 use Rattle.std.proofs.Common.{◌≡◌, ◌∙◌, ℕ, List, Option, None, Some, IfSome, Result, Ok, Err, OnErr, OnOk, refl, sym, ap, inl, inr}
-use Rattle.avida_program.proofs.Prelude.{false≢true, Line, ReadsLog, ConfigValues, SinkState, WorldValue, world_in, ReplaysToLiving, residents_of_world, world_after, Lineage, Run, CallError, Refusal, WriteStop, Change, GainedText, Stays, OnBytes, Work, GivesInput, GivesNoInput, ReadsAndWrites, error_at, GivenBy, IsInputWith, configuration_of, lineage_input_of, StopsRun, IsFinalWorld, run_text, GainedLogOf, LeavesFinal, path_text, Ended, CarriesOut, Watches}
+use Rattle.avida_program.proofs.Prelude.{false≢true, Line, ReadsLog, ConfigValues, SinkState, WorldValue, world_in, ReplaysToLiving, residents_of_world, world_after, Lineage, Run, CallError, Refusal, SinkStop, Change, GainedText, Stays, OnBytes, Work, GivesInput, GivesNoInput, ReadsAndWrites, error_at, GivenBy, IsInputWith, configuration_of, lineage_input_of, StopsRun, IsFinalWorld, run_text, GainedLogOf, LeavesFinal, path_text, Ended, CarriesOut, Watches}
 use Rattle.lineage_log.specs.LogGrammar.{Reads}
 use Rattle.avida_program.specs.declared.command.Command.TheVariants as command
 use Rattle.avida_program.specs.declared.call_error.CallError.TheVariants as error
-use Rattle.written_texts.specs.declared.stop.WriteStop.TheVariants as stop
+use Rattle.avida_port.specs.declared.sink.SinkStop.TheVariants as stop
 use Rattle.logged_run.specs.Watching.{GainedPictures}
 use Rattle.avida_program.proofs.ReadEnds.{carried, nothing_caused, nothing_read, reads_and_writes}
 
@@ -103,7 +103,7 @@ ran_to_end asked work config read wrote pictures unwatched left replays exactly 
 
 -- the run stopped
 pub run_stopped : (asked : Run) (work : Work) (config : ConfigValues)
-    (e : WriteStop) → GivesInput configuration_of work.source config
+    (e : SinkStop) → GivesInput configuration_of work.source config
     → StopsRun asked.watch config work.out work.watch e → (asked.watch ≡ None → Stays work.watch)
     → Stays work.last → CarriesOut (command.Run asked) work (Err (error_at e))
 run_stopped asked work config stop.Fault read stops unwatched kept =

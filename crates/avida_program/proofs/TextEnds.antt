@@ -1,21 +1,16 @@
 -- How a text that goes through a piece ends.
 use Rattle.std.proofs.Common.{◌≡◌, ◌∙◌, Result, Ok, Err, List, ℕ, [], ◌++◌, append_assoc, ap, sym}
-use Rattle.avida_program.proofs.Prelude.{SinkState, Puts, SinkStop, Writes, WritesAll, write_stop_of, WriteStop, put_ended}
-use Rattle.written_texts.specs.declared.stop.WriteStop.TheVariants as stop
+use Rattle.avida_program.proofs.Prelude.{SinkState, SinkStop, Writes, WritesAll, put_ended, put_written}
+use Rattle.avida_port.specs.declared.sink.SinkStop.TheVariants as stop
 use Rattle.written_texts.proofs.PutLemmas.{puts_short}
 use Rattle.written_texts.proofs.WriteLemmas.{writes_then}
 
--- a text that is put whole is written
-pub text_put : {a b : SinkState} {text : List ℕ} → Puts {T = Unit {0}} a b text (Ok tt)
-    → WritesAll {T = Unit {0}} a b text (Ok tt)
-text_put p = record { ok = p.ok; err = tt; fault = tt; counts = p.counts }
-
 -- what a piece holds of a text is written, or stops
-pub rest_put : {a b c : SinkState} {kept held : List ℕ} {r : Result (Unit {0}) WriteStop}
+pub rest_put : {a b c : SinkState} {kept held : List ℕ} {r : Result (Unit {0}) SinkStop}
     (text : List ℕ) → Writes a b [] kept text (Ok tt) → held ≡ kept → WritesAll b c held r
     → WritesAll a c text r
 rest_put {kept = kept} text p is q =
-    rw (← p.ok.1) (writes_then kept (text_put p.ok.2) (rw (← is) q))
+    rw (← p.ok.1) (writes_then kept (put_written p.ok.2) (rw (← is) q))
 
 -- memory ran out within a text
 pub wanting_within : {a b : SinkState} {kept front : List ℕ} (rest all : List ℕ)
@@ -35,5 +30,5 @@ wanting_within {kept = kept} rest all p whole = record {
 -- a put stopped within a text
 pub stopped_within : {a c : SinkState} {new front : List ℕ} {e : SinkStop} (rest all : List ℕ)
     → Writes a c [] new front (Err e) → front ++ rest ≡ all
-    → WritesAll {T = Unit {0}} a c all (Err (write_stop_of e))
+    → WritesAll {T = Unit {0}} a c all (Err e)
 stopped_within rest all p whole = put_ended all (puts_short rest p.err) whole

@@ -7,8 +7,8 @@ use Rattle.avida_program.specs.declared.call_error.CallError.TheVariants as erro
 use Rattle.avida_program.specs.Status.{Ended, fault_line}
 use Rattle.avida_program.specs.declared.refusal.Refusal.{Refusal}
 use Rattle.avida_program.specs.declared.refusal.Refusal.TheVariants.{TooLong}
-use Rattle.written_texts.specs.declared.stop.WriteStop.{WriteStop}
-use Rattle.written_texts.specs.declared.stop.WriteStop.TheVariants.{Fault, Memory}
+use Rattle.avida_port.specs.declared.sink.SinkStop.{SinkStop}
+use Rattle.avida_port.specs.declared.sink.SinkStop.TheVariants.{Fault, Memory}
 
 -- what a call of the program finds and leaves, but for its fault line
 pub record Work : Type 0 where
@@ -46,12 +46,12 @@ TellsOf err (Ok done) = Stays err
 TellsOf err (Err e) = TellsFault err e
 
 -- why a call isn't done whose text is not written whole
-abbrev pub error_at : WriteStop → CallError
+abbrev pub error_at : SinkStop → CallError
 error_at Fault = error.WriteFault
 error_at Memory = error.Memory
 
 -- how a call ends whose text is written so
-abbrev pub ended_by : {T : Type 0} → Result T WriteStop → Ended
+abbrev pub ended_by : {T : Type 0} → Result T SinkStop → Ended
 ended_by (Ok done) = Ok tt
 ended_by (Err stop) = Err (error_at stop)
 

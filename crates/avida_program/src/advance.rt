@@ -9,13 +9,13 @@ use crate::call_error::{CallError, ended_by};
 use crate::input::read_state_for;
 use crate::resume::write_updates;
 use crate::saved_world::write_state;
-use avida_port::{Gate, Memory, Sink, Source};
+use avida_port::{Gate, Memory, Sink, SinkStop, Source};
 use command_line::FurtherUpdates;
 use std::alloc::Global;
 use std::sync::Wait;
 use std::thread::Threads;
 use world_core::State;
-use written_texts::{NoSink, WriteStop};
+use written_texts::NoSink;
 
 /// So many updates more, without their texts.
 fn pass_updates<R: Threads + Wait + Sync, G: Gate + Sync>(
@@ -31,8 +31,8 @@ fn pass_updates<R: Threads + Wait + Sync, G: Gate + Sync>(
     let mut out = NoSink;
     match write_updates(rt, alloc, state, more, &mut out, gate) {
         Ok(after) => Ok(after),
-        Err(WriteStop::Memory) => Err(Memory),
-        Err(WriteStop::Fault) => unreachable!(),
+        Err(SinkStop::Memory) => Err(Memory),
+        Err(SinkStop::Fault) => unreachable!(),
     }
 }
 
@@ -44,7 +44,7 @@ fn advance_and_write<R: Threads + Wait + Sync, O: Sink, G: Gate + Sync>(
     more: u32,
     out: &mut O,
     gate: &G,
-) -> Result<(), WriteStop>
+) -> Result<(), SinkStop>
     requires { state.head.update + more ≤ 1000000 }
     ensures { WritesAll (O.seen out.old) (O.seen out.new) (advanced_text state more) result }
 {

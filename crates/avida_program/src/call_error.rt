@@ -4,8 +4,7 @@ ghost use Rattle.avida_program.specs.Endings.{ended_by, error_at};
 ghost use Rattle.avida_program.specs.declared.call_error.CallError.TheVariants as error;
 
 use crate::refusal::Refusal;
-use avida_port::Memory;
-use written_texts::WriteStop;
+use avida_port::{Memory, SinkStop};
 
 /// Why a call isn't done: what its status tells, and for a rejected input the reason.
 #[derive(Drop)]
@@ -27,19 +26,19 @@ impl From<Memory> for CallError {
     }
 }
 
-impl From<WriteStop> for CallError {
+impl From<SinkStop> for CallError {
     ghost from_gives = { λ stop given. given ≡ error_at stop };
 
-    fn from(stop: WriteStop) -> CallError {
+    fn from(stop: SinkStop) -> CallError {
         match stop {
-            WriteStop::Fault => CallError::WriteFault,
-            WriteStop::Memory => CallError::Memory,
+            SinkStop::Fault => CallError::WriteFault,
+            SinkStop::Memory => CallError::Memory,
         }
     }
 }
 
 /// How a call ends whose text was written so.
-pub fn ended_by(written: Result<(), WriteStop>) -> Result<(), CallError>
+pub fn ended_by(written: Result<(), SinkStop>) -> Result<(), CallError>
     ensures { result ≡ ended_by written }
 {
     Ok(written?)

@@ -9,7 +9,7 @@ use crate::call_error::CallError;
 use crate::input::read_config_with;
 use crate::puts::{put_rest, put_text};
 use crate::run::leave;
-use avida_port::{Gate, Memory, Sink, Source};
+use avida_port::{Gate, Memory, Sink, SinkStop, Source};
 use command_line::Lineage;
 use genome::letters_text;
 use lineage_log::{Link, Path};
@@ -21,7 +21,7 @@ use std::sync::Wait;
 use std::thread::Threads;
 use world_config::Config;
 use world_core::World;
-use written_texts::{Piece, WriteStop, write_text};
+use written_texts::{Piece, write_text};
 
 fn add_parent(text: &mut Vec<u8>, parent: Option<u64>) -> Result<(), Memory>
     ensures { OnOk result (text.new.items ≡ text.old.items ++ parent_text parent) }
@@ -70,7 +70,7 @@ fn add_link(text: &mut Vec<u8>, link: &Link) -> Result<(), Memory>
     Ok(())
 }
 
-fn write_links<O: Sink>(alloc: Global, links: &[Link], out: &mut O) -> Result<(), WriteStop>
+fn write_links<O: Sink>(alloc: Global, links: &[Link], out: &mut O) -> Result<(), SinkStop>
     ensures { WritesAll (O.seen out.old) (O.seen out.new) (flat_map path_line links.now) result }
 {
     let mut piece = Piece::new();
@@ -83,7 +83,7 @@ fn write_links<O: Sink>(alloc: Global, links: &[Link], out: &mut O) -> Result<()
     put_rest(&piece, out)
 }
 
-fn write_path<O: Sink>(alloc: Global, path: Option<Path>, out: &mut O) -> Result<(), WriteStop>
+fn write_path<O: Sink>(alloc: Global, path: Option<Path>, out: &mut O) -> Result<(), SinkStop>
     ensures { WritesAll (O.seen out.old) (O.seen out.new) (path_lines path) result }
 {
     match path {
@@ -101,7 +101,7 @@ fn write_descent<O: Sink>(
     world: &World,
     cell: u32,
     out: &mut O,
-) -> Result<(), WriteStop>
+) -> Result<(), SinkStop>
     requires { cell < world.now.config.width * world.now.config.height }
     ensures { WritesAll (O.seen out.old) (O.seen out.new)
         (path_lines (line_in (world_in world.now) cell)) result }
@@ -119,7 +119,7 @@ fn run_and_write<R: Threads + Wait + Sync, O: Sink, G: Gate + Sync>(
     workers: u32,
     out: &mut O,
     gate: &G,
-) -> Result<World, WriteStop>
+) -> Result<World, SinkStop>
     requires workers { (1 ≤ workers) × (workers ≤ 64) }
     requires cell { cell < config.width * config.height }
     ensures world { IfOk result (IsFinalWorld (values_of config)) }

@@ -15,9 +15,7 @@ use instruction_set::Letter;
 use landscape::{Entry, Survey, Totals, Trial, survey};
 use std::alloc::Global;
 use std::thread::Threads;
-use written_texts::{
-    PIECE_SIZE, Piece, WriteStop, make_room, push_natural, push_spaced, push_text,
-};
+use written_texts::{PIECE_SIZE, Piece, make_room, push_natural, push_spaced, push_text};
 
 /// No line is longer.
 const LINE_ROOM: usize = 96;
@@ -122,7 +120,7 @@ fn write_parts<O: Sink>(
     entries: &[Entry],
     totals: &Totals,
     out: &mut O,
-) -> Result<(), WriteStop>
+) -> Result<(), SinkStop>
     ensures { WritesAll (O.seen out.old) (O.seen out.new)
         (base_line base.now ++ flat_map entry_line entries.now ++ totals_line totals.now) result }
 {
@@ -131,7 +129,7 @@ fn write_parts<O: Sink>(
     put_rest(&piece, out)
 }
 
-fn write_found<O: Sink>(found: &Survey, out: &mut O) -> Result<(), WriteStop>
+fn write_found<O: Sink>(found: &Survey, out: &mut O) -> Result<(), SinkStop>
     ensures { WritesAll (O.seen out.old) (O.seen out.new) (survey_text found.now) result }
 {
     let totals = found.totals();
@@ -145,7 +143,7 @@ fn write_landscape<R: Threads + Sync, O: Sink>(
     genome: &Genome,
     steps: u32,
     out: &mut O,
-) -> Result<(), WriteStop>
+) -> Result<(), SinkStop>
     ensures { WritesAll (O.seen out.old) (O.seen out.new)
         (landscape_text (letters genome.now) steps) result }
 {

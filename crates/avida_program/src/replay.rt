@@ -11,9 +11,7 @@ use crate::puts::put_rest;
 use avida_port::{Sink, SinkStop, Source};
 use lineage_log::{Living, Livings};
 use std::alloc::Global;
-use written_texts::{
-    PIECE_SIZE, Piece, WriteStop, make_room, push_natural, write_byte, write_letters,
-};
+use written_texts::{PIECE_SIZE, Piece, make_room, push_natural, write_byte, write_letters};
 
 /// No line is longer before its letters.
 const LINE_ROOM: usize = 64;
@@ -39,7 +37,7 @@ fn write_living<O: Sink>(piece: &mut Piece, living: &Living, out: &mut O) -> Res
     write_byte(piece, b'\n', out)
 }
 
-fn write_livings<O: Sink>(livings: &[Living], out: &mut O) -> Result<(), WriteStop>
+fn write_livings<O: Sink>(livings: &[Living], out: &mut O) -> Result<(), SinkStop>
     ensures { WritesAll (O.seen out.old) (O.seen out.new)
         (flat_map resident_line livings.now) result }
 {
@@ -50,7 +48,7 @@ fn write_livings<O: Sink>(livings: &[Living], out: &mut O) -> Result<(), WriteSt
     put_rest(&piece, out)
 }
 
-fn write_replayed<O: Sink>(livings: Livings, out: &mut O) -> Result<(), WriteStop>
+fn write_replayed<O: Sink>(livings: Livings, out: &mut O) -> Result<(), SinkStop>
     ensures { (lines : List Line) → livings ≡ replay_of lines
         → WritesAll (O.seen out.old) (O.seen out.new) (replay_text lines) result }
 {

@@ -6,14 +6,13 @@ ghost use Rattle.avida_program.specs.Input.{resume_input_of};
 
 use crate::call_error::{CallError, ended_by};
 use crate::input::read_state_for;
-use avida_port::{Gate, Sink, Source};
+use avida_port::{Gate, Sink, SinkStop, Source};
 use command_line::FurtherUpdates;
 use log_lines::{LogLine, write_line};
 use std::alloc::Global;
 use std::sync::Wait;
 use std::thread::Threads;
 use world_core::State;
-use written_texts::WriteStop;
 
 /// One update, whose text is put whole.
 fn write_update<R: Threads + Wait + Sync, O: Sink, G: Gate + Sync>(
@@ -22,7 +21,7 @@ fn write_update<R: Threads + Wait + Sync, O: Sink, G: Gate + Sync>(
     state: State,
     out: &mut O,
     gate: &G,
-) -> Result<State, WriteStop>
+) -> Result<State, SinkStop>
     requires { state.head.update < 1000000 }
     ensures state { IfOk result (λ next. next ≡ next_state state) }
     ensures text { WritesAll (O.seen out.old) (O.seen out.new) (next_text state) result }
@@ -40,7 +39,7 @@ pub fn write_updates<R: Threads + Wait + Sync, O: Sink, G: Gate + Sync>(
     more: u32,
     out: &mut O,
     gate: &G,
-) -> Result<State, WriteStop>
+) -> Result<State, SinkStop>
     requires { state.head.update + more ≤ 1000000 }
     ensures state { IfOk result (λ after. after ≡ saved_state_after state more) }
     ensures text { WritesAll (O.seen out.old) (O.seen out.new) (later_texts state more) result }
@@ -53,7 +52,7 @@ pub fn write_updates<R: Threads + Wait + Sync, O: Sink, G: Gate + Sync>(
 
 /// Puts the last line of a log that ends with this update.
 #[tactic(auto, unfolding(world_rules::specs::LogText::end_text))]
-fn write_end<O: Sink>(alloc: Global, updates: u32, out: &mut O) -> Result<(), WriteStop>
+fn write_end<O: Sink>(alloc: Global, updates: u32, out: &mut O) -> Result<(), SinkStop>
     ensures { WritesAll (O.seen out.old) (O.seen out.new) (end_text updates) result }
 {
     let mut line = Vec::new(alloc);
@@ -70,7 +69,7 @@ fn write_on<R: Threads + Wait + Sync, O: Sink, G: Gate + Sync>(
     more: u32,
     out: &mut O,
     gate: &G,
-) -> Result<(), WriteStop>
+) -> Result<(), SinkStop>
     requires { state.head.update + more ≤ 1000000 }
     ensures { WritesAll (O.seen out.old) (O.seen out.new) (continued_text state more) result }
 {

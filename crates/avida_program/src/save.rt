@@ -8,13 +8,12 @@ ghost use Rattle.avida_program.specs.Input.{configuration_of};
 use crate::call_error::{CallError, ended_by};
 use crate::input::read_config;
 use crate::saved_world::write_state;
-use avida_port::{Gate, Sink, Source};
+use avida_port::{Gate, Sink, SinkStop, Source};
 use logged_run::run_counted;
 use std::alloc::Global;
 use std::sync::Wait;
 use std::thread::Threads;
 use world_config::Config;
-use written_texts::WriteStop;
 
 /// Runs a configuration to its end, and writes the world then.
 fn run_and_write<R: Threads + Wait + Sync, O: Sink, G: Gate + Sync>(
@@ -24,7 +23,7 @@ fn run_and_write<R: Threads + Wait + Sync, O: Sink, G: Gate + Sync>(
     workers: u32,
     out: &mut O,
     gate: &G,
-) -> Result<(), WriteStop>
+) -> Result<(), SinkStop>
     requires { (1 ≤ workers) × (workers ≤ 64) }
     ensures { WritesAll (O.seen out.old) (O.seen out.new) (save_text (values_of config)) result }
 {

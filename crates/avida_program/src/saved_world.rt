@@ -7,14 +7,13 @@ ghost use Rattle.saved_lines.specs.SavedText as text;
 ghost use Rattle.checkpoint.specs.Reading.{first_cells_text};
 
 use crate::puts::put_text;
-use avida_port::Sink;
+use avida_port::{Sink, SinkStop};
 use checkpoint::laws::texts_are_written_by_cells;
 use checkpoint::{cell_text, head_text, tail_text};
 use std::alloc::Global;
 use world_core::State;
-use written_texts::WriteStop;
 
-fn write_head<O: Sink>(alloc: Global, state: &State, out: &mut O) -> Result<(), WriteStop>
+fn write_head<O: Sink>(alloc: Global, state: &State, out: &mut O) -> Result<(), SinkStop>
     ensures { WritesAll (O.seen out.old) (O.seen out.new)
         (text.saved_head_text state.now.head) result }
 {
@@ -30,7 +29,7 @@ fn write_cell<O: Sink>(
     cell: u32,
     lines: &mut Vec<u8>,
     out: &mut O,
-) -> Result<(), WriteStop>
+) -> Result<(), SinkStop>
     requires { cell < state.now.head.width * state.now.head.height }
     ensures { WritesAll (O.seen out.old) (O.seen out.new)
         (slot_text cell (slice_index_or state.now.cells cell None)) result }
@@ -40,7 +39,7 @@ fn write_cell<O: Sink>(
     put_text(lines, out)
 }
 
-fn write_cells<O: Sink>(alloc: Global, state: &State, out: &mut O) -> Result<(), WriteStop>
+fn write_cells<O: Sink>(alloc: Global, state: &State, out: &mut O) -> Result<(), SinkStop>
     ensures { WritesAll (O.seen out.old) (O.seen out.new)
         (first_cells_text state.now.cells (length state.now.cells)) result }
 {
@@ -52,7 +51,7 @@ fn write_cells<O: Sink>(alloc: Global, state: &State, out: &mut O) -> Result<(),
     Ok(())
 }
 
-fn write_tail<O: Sink>(alloc: Global, state: &State, out: &mut O) -> Result<(), WriteStop>
+fn write_tail<O: Sink>(alloc: Global, state: &State, out: &mut O) -> Result<(), SinkStop>
     ensures { WritesAll (O.seen out.old) (O.seen out.new)
         (text.count_text (taken (ids_of state.now.cells))) result }
 {
@@ -62,7 +61,7 @@ fn write_tail<O: Sink>(alloc: Global, state: &State, out: &mut O) -> Result<(), 
 }
 
 /// Writes a saved world, its first line, each cell and its last line one after another.
-pub fn write_state<O: Sink>(alloc: Global, state: &State, out: &mut O) -> Result<(), WriteStop>
+pub fn write_state<O: Sink>(alloc: Global, state: &State, out: &mut O) -> Result<(), SinkStop>
     ensures { WritesAll (O.seen out.old) (O.seen out.new) (saved_text state.now) result }
 {
     texts_are_written_by_cells();

@@ -8,14 +8,13 @@ use crate::call_error::{CallError, ended_by};
 use crate::input::read_config_for;
 use crate::puts::put_text;
 use assay::{Assay, seeds_with_each};
-use avida_port::{Gate, Memory, Sink, Source};
+use avida_port::{Gate, Memory, Sink, SinkStop, Source};
 use genome::{Genome, letters_text};
 use log_lines::write_number;
 use std::alloc::Global;
 use std::sync::Wait;
 use std::thread::Threads;
 use world_config::Config;
-use written_texts::WriteStop;
 
 /// Appends a space and a sum.
 fn add_sum(text: &mut Vec<u8>, sum: u128) -> Result<(), Memory>
@@ -114,7 +113,7 @@ fn write_assay<R: Threads + Wait + Sync, O: Sink, G: Gate + Sync>(
     workers: u32,
     out: &mut O,
     gate: &G,
-) -> Result<(), WriteStop>
+) -> Result<(), SinkStop>
     requires count { (1 ≤ count) × (count ≤ 64) }
     requires first { first ≤ 9223372036854775744 }
     requires workers { (1 ≤ workers) × (workers ≤ 64) }

@@ -11,14 +11,14 @@ use crate::command::genome_spelling;
 use crate::input::read_genome;
 use crate::puts::put_rest;
 use crate::trace_line::write_line;
-use avida_port::{Sink, Source};
+use avida_port::{Sink, SinkStop, Source};
 use command_line::Trace;
 use genome::Genome;
 use landscape::organism_alone;
 use logic_tasks::Inputs;
 use organism::Organism;
 use std::alloc::Global;
-use written_texts::{Piece, WriteStop};
+use written_texts::Piece;
 
 /// Steps an organism of age 0, and writes a line a step.
 fn write_steps<O: Sink>(
@@ -26,7 +26,7 @@ fn write_steps<O: Sink>(
     mut organism: Organism,
     steps: u32,
     out: &mut O,
-) -> Result<(), WriteStop>
+) -> Result<(), SinkStop>
     requires { organism.age ≡ 0 }
     ensures { WritesAll (O.seen out.old) (O.seen out.new) (trace_lines organism steps) result }
 {
@@ -44,7 +44,7 @@ fn write_trace<O: Sink>(
     low: [u32; 3],
     steps: u32,
     out: &mut O,
-) -> Result<(), WriteStop>
+) -> Result<(), SinkStop>
     ensures { WritesAll (O.seen out.old) (O.seen out.new)
         (trace_text (letters genome) low steps) result }
 {

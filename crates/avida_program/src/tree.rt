@@ -12,7 +12,7 @@ use avida_port::{Sink, SinkStop, Source};
 use lineage_log::Log;
 use phylogeny::{Depth, Phylogeny, phylogeny};
 use std::alloc::Global;
-use written_texts::{PIECE_SIZE, Piece, WriteStop, make_room, push_spaced, push_text};
+use written_texts::{PIECE_SIZE, Piece, make_room, push_spaced, push_text};
 
 /// No line is longer, and the last two together aren't either.
 const LINE_ROOM: usize = 96;
@@ -91,7 +91,7 @@ fn write_lines<O: Sink>(piece: &mut Piece, found: &Phylogeny, out: &mut O) -> Re
     Ok(())
 }
 
-fn write_found<O: Sink>(found: &Phylogeny, out: &mut O) -> Result<(), WriteStop>
+fn write_found<O: Sink>(found: &Phylogeny, out: &mut O) -> Result<(), SinkStop>
     ensures { WritesAll (O.seen out.old) (O.seen out.new) (lines_of_tree found.now) result }
 {
     let mut piece = Piece::new();
@@ -100,7 +100,7 @@ fn write_found<O: Sink>(found: &Phylogeny, out: &mut O) -> Result<(), WriteStop>
 }
 
 /// Writes the tree of a log.
-fn write_tree<O: Sink>(alloc: Global, log: &Log, out: &mut O) -> Result<(), WriteStop>
+fn write_tree<O: Sink>(alloc: Global, log: &Log, out: &mut O) -> Result<(), SinkStop>
     ensures { WritesAll (O.seen out.old) (O.seen out.new) (tree_text log.now) result }
 {
     let found = phylogeny(alloc, log)?;

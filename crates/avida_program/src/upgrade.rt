@@ -9,12 +9,12 @@ ghost use Rattle.avida_program.specs.Output.{upgrade_text};
 use crate::call_error::{CallError, ended_by};
 use crate::input::read_lines;
 use crate::puts::put_rest;
-use avida_port::{Sink, Source};
+use avida_port::{Sink, SinkStop, Source};
 use lineage_log::{Log, LogLine, write_line};
 use std::alloc::Global;
-use written_texts::{Piece, WriteStop, write_text};
+use written_texts::{Piece, write_text};
 
-fn write_lines<O: Sink>(alloc: Global, lines: &[LogLine], out: &mut O) -> Result<(), WriteStop>
+fn write_lines<O: Sink>(alloc: Global, lines: &[LogLine], out: &mut O) -> Result<(), SinkStop>
     ensures { WritesAll (O.seen out.old) (O.seen out.new) (lines_text (lines_of lines.now)) result }
 {
     let mut piece = Piece::new();
@@ -27,7 +27,7 @@ fn write_lines<O: Sink>(alloc: Global, lines: &[LogLine], out: &mut O) -> Result
     put_rest(&piece, out)
 }
 
-fn write_upgraded<O: Sink>(alloc: Global, mut log: Log, out: &mut O) -> Result<(), WriteStop>
+fn write_upgraded<O: Sink>(alloc: Global, mut log: Log, out: &mut O) -> Result<(), SinkStop>
     ensures { WritesAll (O.seen out.old) (O.seen out.new) (upgrade_text log) result }
 {
     log.upgrade();

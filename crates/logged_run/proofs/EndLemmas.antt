@@ -1,14 +1,14 @@
 -- How a run with a watcher ends, by what the runner and the watcher answered.
 use Rattle.std.proofs.Common.{◌≡◌, ℕ, List, Option, Some, IfOk, Result, Ok, Err, subst, sym, ◌∙◌}
 use Rattle.std.specs.Prelude.{IsErrAnd, OnOk}
-use Rattle.logged_run.proofs.Prelude.{err_from_is_err_and, SinkState, ConfigValues, WorldPicture, WorldValue, WriteStop, Change, GainedText, change, WritesAll, Progress, HasCome, RunsToEnd, WritesLog, StopsRun, EndsRun, EndsWatched, IsAtEnd, RunsWatched, IsFinalWorld, run_text, BeginsAs, Watches, WritesLooks}
-use Rattle.written_texts.specs.declared.stop.WriteStop.TheVariants as stop
+use Rattle.logged_run.proofs.Prelude.{err_from_is_err_and, SinkState, ConfigValues, WorldPicture, WorldValue, SinkStop, Change, GainedText, change, WritesAll, Progress, HasCome, RunsToEnd, WritesLog, StopsRun, EndsRun, EndsWatched, IsAtEnd, RunsWatched, IsFinalWorld, run_text, BeginsAs, Watches, WritesLooks}
+use Rattle.avida_port.specs.declared.sink.SinkStop.TheVariants as stop
 use Rattle.logged_run.proofs.NewsLemmas.{line_as}
 use Rattle.logged_run.proofs.PublishedLemmas.{last_heard}
 use Rattle.logged_run.proofs.WatchLemmas.{all_watched, last_stopped, nothing_run, runner_stopped, watcher_stopped}
 
 -- where the runner and the watcher came to their end the run is at its end
-pub at_end : (ran : Result Progress WriteStop) (watched : Result (Option ℕ) WriteStop)
+pub at_end : (ran : Result Progress SinkStop) (watched : Result (Option ℕ) SinkStop)
     (config : ConfigValues) (published observed : List WorldPicture)
     → OnOk watched (BeginsAs config observed)
     → IfOk ran (HasCome config config.updates published)
@@ -23,7 +23,7 @@ at_end (Ok progress) (Ok newest) config published observed begins come = record 
 }
 
 -- a run that stopped
-run_stopped : {looks : ℕ} {config : ConfigValues} {out watch : Change SinkState} (e : WriteStop)
+run_stopped : {looks : ℕ} {config : ConfigValues} {out watch : Change SinkState} (e : SinkStop)
     → StopsRun (Some looks) config out watch e → RunsWatched looks config out watch (Err e)
 run_stopped e stopped = record { world = tt; ok = tt; watched = tt; err = stopped }
 
@@ -33,14 +33,14 @@ whole : {T : Type 0} {a b : SinkState} {t : T} (config : ConfigValues)
 whole {a = a} {b = b} config wrote = subst (GainedText (change a b)) wrote.is wrote.writes.ok
 
 -- the log where the runner stopped
-stopped : {T : Type 0} {a b : SinkState} {e : WriteStop} (config : ConfigValues)
+stopped : {T : Type 0} {a b : SinkState} {e : SinkStop} (config : ConfigValues)
     → WritesLog {T = T} config a b (Err e) → WritesAll {T = T} a b (run_text config) (Err e)
 stopped {T = T} {a = a} {b = b} {e = e} config wrote =
     subst (λ text. WritesAll {T = T} a b text (Err e)) wrote.is wrote.writes
 
 -- both came to their end
 watched_ended : {a b c d f : SinkState} {progress : Progress} {newest : Option ℕ} (looks : ℕ)
-    (config : ConfigValues) (result : Result WorldValue WriteStop)
+    (config : ConfigValues) (result : Result WorldValue SinkStop)
     → GainedText (change a b) (run_text config) → WritesLooks looks config c d (Ok newest)
     → IsFinalWorld config progress.world → EndsWatched progress newest d f result
     → RunsWatched looks config (change a b) (change c f) result
@@ -58,8 +58,8 @@ watched_ended {progress = progress} {newest = newest} looks config (Err e) log l
 
 -- a run ends by how its runner and its watcher ended
 pub run_ended : {a b c d f : SinkState} {published observed : List WorldPicture} (looks : ℕ)
-    (config : ConfigValues) (ran : Result Progress WriteStop)
-    (watched : Result (Option ℕ) WriteStop) (result : Result WorldValue WriteStop)
+    (config : ConfigValues) (ran : Result Progress SinkStop)
+    (watched : Result (Option ℕ) SinkStop) (result : Result WorldValue SinkStop)
     → RunsToEnd config published a b ran → Watches looks config observed c d watched
     → EndsRun ran watched d f result
     → RunsWatched looks config (change a b) (change c f) result
@@ -74,7 +74,7 @@ run_ended looks config (Ok progress) (Ok newest) result run watch ends =
 
 -- an error that memory ran out stops a run with a watcher before anything was written
 pub stopped_early : (looks : ℕ) (config : ConfigValues) (out watch : SinkState)
-    (result : Result WorldValue WriteStop) → IsErrAnd result (λ error. error ≡ stop.Memory)
+    (result : Result WorldValue SinkStop) → IsErrAnd result (λ error. error ≡ stop.Memory)
     → RunsWatched looks config (change out out) (change watch watch) result
 stopped_early looks config out watch result is =
     let error = err_from_is_err_and result is in

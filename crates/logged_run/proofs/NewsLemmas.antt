@@ -1,9 +1,9 @@
 -- The line of a picture that is news, said of equal configurations and updates.
 use Rattle.std.proofs.Common.{◌≡◌, ℕ, Option, Result, subst}
-use Rattle.logged_run.proofs.Prelude.{SinkState, ConfigValues, WriteStop, WritesAll, news, pictures_text}
+use Rattle.logged_run.proofs.Prelude.{SinkState, ConfigValues, SinkStop, WritesAll, news, pictures_text}
 
 -- the line of the last picture, of another configuration and update that are equal to its own
-pub line_as : {T : Type 0} {a b : SinkState} {r : Result T WriteStop} {here there : ConfigValues}
+pub line_as : {T : Type 0} {a b : SinkState} {r : Result T SinkStop} {here there : ConfigValues}
     {at last to : ℕ} (newest : Option ℕ) → here ≡ there → at ≡ to → last ≡ to
     → WritesAll a b (pictures_text here (news newest last at)) r
     → WritesAll a b (pictures_text there (news newest to to)) r

@@ -1,5 +1,5 @@
 -- What the proofs of this crate cite from outside most often, passed on from one place.
-pub use Rattle.logged_run.specs.Prelude.{Change, ConfigValues, GainedFront, GainedText, SinkFailed, SinkState, WorldPicture, WorldValue, WriteStop, WritesAll, change, end_text, head_text, update_text, updates_text, values_of}
+pub use Rattle.logged_run.specs.Prelude.{Change, ConfigValues, GainedFront, GainedText, SinkFailed, SinkState, WorldPicture, WorldValue, SinkStop, WritesAll, change, end_text, head_text, update_text, updates_text, values_of}
 pub use Rattle.logged_run.specs.Publishing.{HasCome, IsBeginning, IsBegun, IsNew, IsPublished, RunsToEnd, WritesLog}
 pub use Rattle.logged_run.specs.RunText.{AreSmall, AreSumsOf, AreSumsWith, IsFinalWorld, IsSumOver, IsSumWith, IsWorldAt, run_text}
 unfoldable pub use Rattle.logged_run.specs.RunText.{births_until, deaths_until}

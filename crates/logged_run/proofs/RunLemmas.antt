@@ -1,6 +1,6 @@
 -- How the texts of a run add up.
 use Rattle.std.proofs.Common.{◌≡◌, ◌<◌, ◌+◌, ℕ, Result, Ok, Err, refl, add-one, arith, subst}
-use Rattle.logged_run.proofs.Prelude.{SinkState, ConfigValues, head_text, update_text, updates_text, end_text, log_text, WriteStop, WritesAll, writes_short, writes_then}
+use Rattle.logged_run.proofs.Prelude.{SinkState, ConfigValues, head_text, update_text, updates_text, end_text, log_text, SinkStop, WritesAll, writes_short, writes_then}
 use Rattle.written_texts.proofs.GrowingTexts.{Grows, part_stopped, part_written}
 
 -- the texts of the updates so far grow by the next one
@@ -9,7 +9,7 @@ updates_grow : (config : ConfigValues) (end : ℕ)
 updates_grow config end n within = rw (add-one n) refl
 
 -- an update's text, said of the run that has come so far
-text_at : {T : Type 0} {b c : SinkState} {r : Result T WriteStop} {config here : ConfigValues}
+text_at : {T : Type 0} {b c : SinkState} {r : Result T SinkStop} {config here : ConfigValues}
     {n at : ℕ} → here ≡ config → at ≡ n → WritesAll b c (update_text here (at + 1)) r
     → WritesAll b c (update_text config (n + 1)) r
 text_at {T = T} {b = b} {c = c} {r = r} {config = config} {at = at} same now q =
@@ -17,7 +17,7 @@ text_at {T = T} {b = b} {c = c} {r = r} {config = config} {at = at} same now q =
     (subst (λ (d : ConfigValues). WritesAll {T = T} b c (update_text d (at + 1)) r) same q)
 
 -- one more update is written
-pub update_written : {T : Type 0} {a b c : SinkState} {r : Result T WriteStop}
+pub update_written : {T : Type 0} {a b c : SinkState} {r : Result T SinkStop}
     {config here : ConfigValues} {n at : ℕ}
     → WritesAll {T = Unit {0}} a b (updates_text config n) (Ok tt)
     → WritesAll b c (update_text here (at + 1)) r
@@ -27,7 +27,7 @@ update_written {config = config} {n = n} p q same now =
     (updates_grow config (n + 1)) (omega arith) p (text_at same now q)
 
 -- an update stopped
-pub update_stopped : {T U : Type 0} {a b c : SinkState} {e : WriteStop}
+pub update_stopped : {T U : Type 0} {a b c : SinkState} {e : SinkStop}
     {config here : ConfigValues} {n at updates : ℕ} → n < updates
     → WritesAll {T = Unit {0}} a b (updates_text config n) (Ok tt)
     → WritesAll {T = T} b c (update_text here (at + 1)) (Err e)
@@ -39,7 +39,7 @@ update_stopped {T = T} {config = config} {n = n} {updates = updates} within p q 
 -- the log of a configuration that a world has
 module _ {config here : ConfigValues} (same : here ≡ config) (updates : ℕ) where
   -- the first line stopped
-  pub first_stopped : {T U : Type 0} {a b : SinkState} {e : WriteStop}
+  pub first_stopped : {T U : Type 0} {a b : SinkState} {e : SinkStop}
       → WritesAll {T = T} a b (head_text here) (Err e)
       → WritesAll {T = U} a b (log_text config updates) (Err e)
   unfolding log_text
@@ -48,7 +48,7 @@ module _ {config here : ConfigValues} (same : here ≡ config) (updates : ℕ) w
       (writes_short {T = T} (end_text updates) (writes_short {U = T} (updates_text here updates) p))
 
   -- the updates stopped
-  pub updates_stopped : {T U V : Type 0} {a b c : SinkState} {u : U} {e : WriteStop}
+  pub updates_stopped : {T U V : Type 0} {a b c : SinkState} {u : U} {e : SinkStop}
       → WritesAll {T = U} a b (head_text here) (Ok u)
       → WritesAll {T = T} b c (updates_text here updates) (Err e)
       → WritesAll {T = V} a c (log_text config updates) (Err e)
@@ -59,7 +59,7 @@ module _ {config here : ConfigValues} (same : here ≡ config) (updates : ℕ) w
 
   -- the last line is written, or stopped
   pub last_written : {T U V : Type 0} {a b c d : SinkState} {u : U} {v : V}
-      {r : Result T WriteStop} {at : ℕ} → WritesAll {T = U} a b (head_text here) (Ok u)
+      {r : Result T SinkStop} {at : ℕ} → WritesAll {T = U} a b (head_text here) (Ok u)
       → WritesAll {T = V} b c (updates_text here updates) (Ok v)
       → WritesAll c d (end_text at) r → at ≡ updates → WritesAll a d (log_text config updates) r
   unfolding log_text

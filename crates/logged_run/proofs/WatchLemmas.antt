@@ -1,7 +1,7 @@
 -- What a run with a watcher leaves, by how the runner and the watcher ended.
 use Rattle.std.proofs.Common.{◌≡◌, ℕ, List, [], ◌∷◌, ◌++◌, Option, None, Some, IfSome, Result, Ok, Err, refl, sym, append-nil, arith, inl, inr, subst}
-use Rattle.logged_run.proofs.Prelude.{SinkState, ConfigValues, WriteStop, Change, GainedFront, GainedText, SinkFailed, Stays, change, WritesAll, nothing_written, writes_short, writes_then, PutFailed, StopsRun, run_text, WritesLooks, news, AreWatched, GainedPictures, GainedPicturesFront, pictures_text}
-use Rattle.written_texts.specs.declared.stop.WriteStop.TheVariants as stop
+use Rattle.logged_run.proofs.Prelude.{SinkState, ConfigValues, SinkStop, Change, GainedFront, GainedText, SinkFailed, Stays, change, WritesAll, nothing_written, writes_short, writes_then, PutFailed, StopsRun, run_text, WritesLooks, news, AreWatched, GainedPictures, GainedPicturesFront, pictures_text}
+use Rattle.avida_port.specs.declared.sink.SinkStop.TheVariants as stop
 use Rattle.written_texts.proofs.GainedLemmas.{front_short, stays_front}
 use Rattle.logged_run.proofs.LookLemmas.{watched}
 use Rattle.logged_run.proofs.WatcherLemmas.{pictures_more}
@@ -30,7 +30,7 @@ out_failed None out watch h = h
 out_failed (Some n) out watch h = inl h
 
 -- the log stopped, whatever the watcher has written
-pub log_stopped : {T : Type 0} {a b : SinkState} {e : WriteStop} (looks : Option ℕ)
+pub log_stopped : {T : Type 0} {a b : SinkState} {e : SinkStop} (looks : Option ℕ)
     (config : ConfigValues) (watch : Change SinkState)
     → WritesAll {T = T} a b (run_text config) (Err e)
     → IfSome looks (λ n. GainedPicturesFront n config watch)
@@ -49,13 +49,13 @@ whole_front sink text h = (text, ([], append-nil text), h)
 
 -- the lines of a watcher, from its first look to its end
 pub record WritesWatched {T : Type 0} (looks : ℕ) (config : ConfigValues) (before after : SinkState)
-    (result : Result T WriteStop) : Type 0 where
+    (result : Result T SinkStop) : Type 0 where
   pub updates : List ℕ
   pub watched : AreWatched looks config.updates updates
   pub writes : WritesAll before after (pictures_text config updates) result
 
 -- the watcher stopped before the last look
-stopped_looks : {T : Type 0} {a b : SinkState} {e : WriteStop} (looks : ℕ) (config : ConfigValues)
+stopped_looks : {T : Type 0} {a b : SinkState} {e : SinkStop} (looks : ℕ) (config : ConfigValues)
     → WritesLooks looks config a b (Err e) → WritesWatched {T = T} looks config a b (Err e)
 stopped_looks {T = T} {a = a} {b = b} {e = e} looks config wrote = record {
   updates = wrote.updates ++ news wrote.newest config.updates config.updates;
@@ -65,7 +65,7 @@ stopped_looks {T = T} {a = a} {b = b} {e = e} looks config wrote = record {
 }
 
 -- the last picture's line comes after those of the looks
-last_looks : {T : Type 0} {a b c : SinkState} {newest : Option ℕ} {r : Result T WriteStop}
+last_looks : {T : Type 0} {a b c : SinkState} {newest : Option ℕ} {r : Result T SinkStop}
     (looks : ℕ) (config : ConfigValues) → WritesLooks looks config a b (Ok newest)
     → WritesAll b c (pictures_text config (news newest config.updates config.updates)) r
     → WritesWatched looks config a c r
@@ -83,14 +83,14 @@ last_looks {T = T} {a = a} {b = b} {c = c} {newest = newest} {r = r} looks confi
     }
 
 -- the lines of a watcher that stopped
-pictures_front : {T : Type 0} {a b : SinkState} {e : WriteStop} (looks : ℕ) (config : ConfigValues)
+pictures_front : {T : Type 0} {a b : SinkState} {e : SinkStop} (looks : ℕ) (config : ConfigValues)
     → WritesWatched {T = T} looks config a b (Err e) → GainedPicturesFront looks config (change a b)
 pictures_front looks config wrote =
     record { updates = wrote.updates; watched = wrote.watched; gained = wrote.writes.err }
 
 -- the lines of looks, as far as they were written, are a prefix of those of a watcher
 looks_front : {a b : SinkState} (looks : ℕ) (config : ConfigValues)
-    (r : Result (Option ℕ) WriteStop)
+    (r : Result (Option ℕ) SinkStop)
     → WritesLooks looks config a b r → GainedPicturesFront looks config (change a b)
 looks_front {a = a} {b = b} looks config (Ok newest) wrote = record {
   updates = wrote.updates ++ news wrote.newest config.updates config.updates;
@@ -103,7 +103,7 @@ looks_front looks config (Err e) wrote =
     pictures_front {T = Option ℕ} looks config (stopped_looks looks config wrote)
 
 -- the log is whole, and the watcher stopped
-watch_stopped : {T : Type 0} {a b : SinkState} {e : WriteStop} (looks : ℕ) (config : ConfigValues)
+watch_stopped : {T : Type 0} {a b : SinkState} {e : SinkStop} (looks : ℕ) (config : ConfigValues)
     (out : Change SinkState)
     → GainedText out (run_text config) → WritesWatched {T = T} looks config a b (Err e)
     → StopsRun (Some looks) config out (change a b) e
@@ -115,22 +115,22 @@ watch_stopped looks config out whole wrote = record {
 }
 
 -- the runner stopped, however the watcher ended
-pub runner_stopped : {T : Type 0} {a b c d : SinkState} {e : WriteStop} (looks : ℕ)
-    (config : ConfigValues) (r : Result (Option ℕ) WriteStop)
+pub runner_stopped : {T : Type 0} {a b c d : SinkState} {e : SinkStop} (looks : ℕ)
+    (config : ConfigValues) (r : Result (Option ℕ) SinkStop)
     → WritesAll {T = T} a b (run_text config) (Err e) → WritesLooks looks config c d r
     → StopsRun (Some looks) config (change a b) (change c d) e
 runner_stopped {c = c} {d = d} looks config r ran wrote =
     log_stopped (Some looks) config (change c d) ran (looks_front looks config r wrote)
 
 -- the runner came to its end, and the watcher stopped at one of its looks
-pub watcher_stopped : {a b c d : SinkState} {e : WriteStop} (looks : ℕ) (config : ConfigValues)
+pub watcher_stopped : {a b c d : SinkState} {e : SinkStop} (looks : ℕ) (config : ConfigValues)
     → GainedText (change a b) (run_text config) → WritesLooks looks config c d (Err e)
     → StopsRun (Some looks) config (change a b) (change c d) e
 watcher_stopped {a = a} {b = b} looks config ran wrote =
     watch_stopped {T = Option ℕ} looks config (change a b) ran (stopped_looks looks config wrote)
 
 -- both came to their end, and the last picture's line stopped
-pub last_stopped : {U : Type 0} {a b c d f : SinkState} {newest : Option ℕ} {e : WriteStop}
+pub last_stopped : {U : Type 0} {a b c d f : SinkState} {newest : Option ℕ} {e : SinkStop}
     (looks : ℕ) (config : ConfigValues)
     → GainedText (change a b) (run_text config) → WritesLooks looks config c d (Ok newest)
     → WritesAll {T = U} d f (pictures_text config (news newest config.updates config.updates))

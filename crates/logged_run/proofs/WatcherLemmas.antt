@@ -1,9 +1,9 @@
 -- What a watcher has written after some of its looks.
 use Rattle.std.proofs.Common.{◌≡◌, ◌≤◌, ◌+◌, ℕ, List, [], ◌++◌, Option, None, Some, IfOk, Result, Ok, Err, refl, sym, subst, arith}
-use Rattle.logged_run.proofs.Prelude.{IsPrefix, SinkState, IsPublication, last_of, ConfigValues, WorldPicture, WriteStop, WritesAll, AreSeen, BeginsAs, HasLooked, LooksOn, Watches, WritesLooks, newest_after, news, pictures_text, stopped_same, wanting_after, writes_nothing, writes_same, writes_then}
+use Rattle.logged_run.proofs.Prelude.{IsPrefix, SinkState, IsPublication, last_of, ConfigValues, WorldPicture, SinkStop, WritesAll, AreSeen, BeginsAs, HasLooked, LooksOn, Watches, WritesLooks, newest_after, news, pictures_text, stopped_same, wanting_after, writes_nothing, writes_same, writes_then}
 use Rattle.std.proofs.lemmas.Grind.{flat_map-append}
 use Rattle.world_rules.specs.Picture.{picture_of, picture_text}
-use Rattle.written_texts.specs.declared.stop.WriteStop.TheVariants as stop
+use Rattle.avida_port.specs.declared.sink.SinkStop.TheVariants as stop
 use Rattle.logged_run.proofs.LookLemmas.{seen_more, seen_nothing, seen_within}
 use Rattle.logged_run.proofs.PublishedLemmas.{begins_later, begun, config_in, looked}
 
@@ -34,7 +34,7 @@ module _ (k : ℕ) (config : ConfigValues) (history whole : List WorldPicture) (
       last publication).1
 
   -- its line is put where it is news, or the put stopped
-  look_writes : {T : Type 0} (r : Result T WriteStop)
+  look_writes : {T : Type 0} (r : Result T SinkStop)
       → WritesAll b c (pictures_text (config_in picture)
       (news newest config.updates picture.update)) r
       → WritesAll a c (pictures_text config
@@ -63,7 +63,7 @@ module _ (k : ℕ) (config : ConfigValues) (history whole : List WorldPicture) (
   }
 
   -- the watcher stops at this look
-  look_stopped : {T : Type 0} (e : WriteStop)
+  look_stopped : {T : Type 0} (e : SinkStop)
       → WritesAll {T = T} b c (pictures_text (config_in picture)
       (news newest config.updates picture.update)) (Err e)
       → WritesLooks (k + 1) config a c (Err e)
@@ -76,7 +76,7 @@ module _ (k : ℕ) (config : ConfigValues) (history whole : List WorldPicture) (
   }
 
   -- a look more was made, or it stopped
-  pub look_ended : (r : Result (Option ℕ) WriteStop)
+  pub look_ended : (r : Result (Option ℕ) SinkStop)
       → WritesAll b c (pictures_text (config_in picture)
       (news newest config.updates picture.update)) r
       → IfOk r (λ after. after ≡ newest_after newest config.updates picture.update)
@@ -98,7 +98,7 @@ look_wanting k config history newest a b so = record {
 
 -- more looks may be made
 pub looks_within : (looks more : ℕ) (config : ConfigValues) (a b : SinkState)
-    (r : Result (Option ℕ) WriteStop) → WritesLooks looks config a b r → looks ≤ more
+    (r : Result (Option ℕ) SinkStop) → WritesLooks looks config a b r → looks ≤ more
     → WritesLooks more config a b r
 looks_within looks more config a b r wrote le = record {
   updates = wrote.updates;

@@ -8,4 +8,4 @@ pub use Rattle.world_rules.specs.LogText.{end_text, head_text, log_text, update_
 pub use Rattle.world_rules.specs.Picture.{picture_of, picture_text}
 pub use Rattle.written_texts.specs.SinkChanges.{Change, GainedFront, GainedText, SinkFailed, change}
 pub use Rattle.written_texts.specs.WrittenText.{WritesAll}
-pub use Rattle.written_texts.specs.declared.stop.WriteStop.{WriteStop}
+pub use Rattle.avida_port.specs.declared.sink.SinkStop.{SinkStop}

@@ -1,7 +1,7 @@
 -- How a run begins that publishes its pictures, and how far it has come (docs/ARCHITECTURE.md,
 -- "Pictures and observers").
 use Rattle.std.specs.Prelude.{◌≡◌, ◌+◌, ℕ, List, Option, None, Some, IfOk, IfSome, Result}
-use Rattle.logged_run.specs.Prelude.{SinkState, values_of, ConfigValues, WorldPicture, WriteStop, WritesAll}
+use Rattle.logged_run.specs.Prelude.{SinkState, values_of, ConfigValues, WorldPicture, SinkStop, WritesAll}
 use Rattle.logged_run.specs.declared.publishing.Progress.{Progress}
 use Rattle.logged_run.specs.RunText.{IsWorldAt, run_text}
 use Rattle.logged_run.specs.Watching.{ArePictures, BeginsAs}
@@ -34,14 +34,14 @@ pub record IsBegun (config : ConfigValues) (published : List WorldPicture)
 
 -- the log of a configuration's run is written, or it stops
 pub record WritesLog {T : Type 0} (config : ConfigValues) (before after : SinkState)
-    (result : Result T WriteStop) : Type 0 where
+    (result : Result T SinkStop) : Type 0 where
   pub text : List ℕ
   pub is : text ≡ run_text config
   pub writes : WritesAll before after text result
 
 -- a configuration's run came to its end, and its log is written, or it stopped
 pub record RunsToEnd (config : ConfigValues) (published : List WorldPicture)
-    (before after : SinkState) (result : Result Progress WriteStop) : Type 0 where
+    (before after : SinkState) (result : Result Progress SinkStop) : Type 0 where
   pub come : IfOk result (HasCome config config.updates published)
   pub log : WritesLog config before after result
 

@@ -1,8 +1,8 @@
 -- How a run with a watcher ends, and how the writing of one stops (docs/ARCHITECTURE.md, "Pictures
 -- and observers"; docs/FORMATS.md, "Statuses and fault lines").
 use Rattle.std.specs.Prelude.{◌≡◌, ◌⊎◌, ℕ, Option, None, Some, IfSome, List, Result, Ok, Err, IfErr, IfOk, OnOk}
-use Rattle.logged_run.specs.Prelude.{SinkState, ConfigValues, WriteStop, Change, GainedFront, GainedText, SinkFailed, values_of, WorldPicture, WorldValue, WritesAll}
-use Rattle.written_texts.specs.declared.stop.WriteStop.TheVariants.{Fault}
+use Rattle.logged_run.specs.Prelude.{SinkState, ConfigValues, SinkStop, Change, GainedFront, GainedText, SinkFailed, values_of, WorldPicture, WorldValue, WritesAll}
+use Rattle.avida_port.specs.declared.sink.SinkStop.TheVariants.{Fault}
 use Rattle.logged_run.specs.RunText.{run_text, IsFinalWorld}
 use Rattle.logged_run.specs.Watching.{GainedPicturesFront, GainedPictures, pictures_text, BeginsAs, IsHeard, news}
 use Rattle.logged_run.specs.declared.publishing.Progress.{Progress}
@@ -14,7 +14,7 @@ PutFailed (Some looks) out watch = SinkFailed out ⊎ SinkFailed watch
 
 -- how the writing of a run stops, which may have a watcher
 pub record StopsRun (looks : Option ℕ) (config : ConfigValues) (out watch : Change SinkState)
-    (stop : WriteStop) : Type 0 where
+    (stop : SinkStop) : Type 0 where
   pub fault : stop ≡ Fault → PutFailed looks out watch
   pub front : GainedFront out (run_text config)
   pub whole_log : stop ≡ Fault → ¬ SinkFailed out → GainedText out (run_text config)
@@ -29,14 +29,14 @@ pub record IsAtEnd (observed : List WorldPicture) (progress : Progress) : Type 0
 
 -- the line of a run's last picture is put where it is news, and its world is left, or the put stops
 pub record EndsWatched (progress : Progress) (newest : Option ℕ) (before after : SinkState)
-    (result : Result WorldValue WriteStop) : Type 0 where
+    (result : Result WorldValue SinkStop) : Type 0 where
   pub world : IfOk result (λ world. world ≡ progress.world)
   pub line : WritesAll before after (pictures_text progress.world.config
       (news newest progress.world.update progress.world.update)) result
 
 -- how a run ends whose runner and watcher ended so: the runner's stop comes before the watcher's
-abbrev pub EndsRun : Result Progress WriteStop → Result (Option ℕ) WriteStop
-    → SinkState → SinkState → Result WorldValue WriteStop → Type 0
+abbrev pub EndsRun : Result Progress SinkStop → Result (Option ℕ) SinkStop
+    → SinkState → SinkState → Result WorldValue SinkStop → Type 0
 EndsRun (Err stop) watched before after result = (result ≡ Err stop) × (after ≡ before)
 EndsRun (Ok progress) (Err stop) before after result = (result ≡ Err stop) × (after ≡ before)
 EndsRun (Ok progress) (Ok newest) before after result =
@@ -44,7 +44,7 @@ EndsRun (Ok progress) (Ok newest) before after result =
 
 -- a configuration's run with a watcher of so many looks came to its end, or it stopped
 pub record RunsWatched (looks : ℕ) (config : ConfigValues) (out watch : Change SinkState)
-    (result : Result WorldValue WriteStop) : Type 0 where
+    (result : Result WorldValue SinkStop) : Type 0 where
   pub world : IfOk result (IsFinalWorld config)
   pub ok : OnOk result (GainedText out (run_text config))
   pub watched : OnOk result (GainedPictures looks config watch)

@@ -1,7 +1,7 @@
 -- What the watcher of a run has seen and written, look by look (docs/ARCHITECTURE.md, "Pictures and
 -- observers"; docs/FORMATS.md, "Watch lines").
 use Rattle.std.specs.Prelude.{◌≡◌, ◌≤◌, ◌+◌, ℕ, List, [], ◌∷◌, ◌++◌, flat_map, length, ◌&&◌, Bool, Option, None, Some, IfSome, IfOk, OnOk, Result, Ok, Err, nat_le, nat_lt, if◌then◌else◌}
-use Rattle.logged_run.specs.Prelude.{ConfigValues, picture_of, picture_text, Change, GainedFront, GainedText, SinkState, values_of, WorldPicture, WriteStop, WritesAll}
+use Rattle.logged_run.specs.Prelude.{ConfigValues, picture_of, picture_text, Change, GainedFront, GainedText, SinkState, values_of, WorldPicture, SinkStop, WritesAll}
 use Rattle.std.specs.List.Sorted.{IsStrictlyIncreasing}
 use Rattle.published_world.specs.PublicationHistory.{first_of, last_of}
 
@@ -71,7 +71,7 @@ pub record AreSeen (looks last : ℕ) (newest : Option ℕ) (updates : List ℕ)
 
 -- the lines that so many looks write, or where they stop; the answer is the newest update
 pub record WritesLooks (looks : ℕ) (config : ConfigValues) (before after : SinkState)
-    (result : Result (Option ℕ) WriteStop) : Type 0 where
+    (result : Result (Option ℕ) SinkStop) : Type 0 where
   pub updates : List ℕ
   pub newest : Option ℕ
   pub seen : AreSeen looks config.updates newest updates
@@ -88,7 +88,7 @@ pub record HasLooked (looks : ℕ) (config : ConfigValues) (observed : List Worl
 
 -- after so many looks one more was made, or it stopped
 abbrev pub LooksOn : ℕ → ConfigValues → List WorldPicture → SinkState → SinkState
-    → Result (Option ℕ) WriteStop → Type 0
+    → Result (Option ℕ) SinkStop → Type 0
 LooksOn looks config observed before after (Ok newest) =
     HasLooked (looks + 1) config observed newest before after
 LooksOn looks config observed before after (Err e) =
@@ -96,6 +96,6 @@ LooksOn looks config observed before after (Err e) =
 
 -- a watcher that looks so often came to the end of its looks, having observed this, or it stopped
 pub record Watches (looks : ℕ) (config : ConfigValues) (observed : List WorldPicture)
-    (before after : SinkState) (result : Result (Option ℕ) WriteStop) : Type 0 where
+    (before after : SinkState) (result : Result (Option ℕ) SinkStop) : Type 0 where
   pub begins : OnOk result (BeginsAs config observed)
   pub lines : WritesLooks looks config before after result

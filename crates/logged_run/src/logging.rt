@@ -4,16 +4,16 @@ ghost use Rattle.logged_run.specs.Prelude.{values_of, head_text, update_text, up
 ghost use Rattle.logged_run.specs.RunText.{AreSumsOf, IsEndOf, IsFinalWorld, IsWorldAt, run_text};
 
 use crate::sums::{NO_SUMS, Sums};
-use avida_port::{Gate, Memory, Sink};
+use avida_port::{Gate, Memory, Sink, SinkStop};
 use std::alloc::Global;
 use std::sync::Wait;
 use std::thread::Threads;
 use world_config::Config;
 use world_core::{RunningWorld, World};
-use written_texts::{NoSink, WriteStop};
+use written_texts::NoSink;
 
 /// Puts the log's first line.
-pub fn write_first<O: Sink>(alloc: Global, world: &World, out: &mut O) -> Result<(), WriteStop>
+pub fn write_first<O: Sink>(alloc: Global, world: &World, out: &mut O) -> Result<(), SinkStop>
     ensures { WritesAll (O.seen out.old) (O.seen out.new) (head_text world.now.config) result }
 {
     let line = world.first_line(alloc)?;
@@ -22,7 +22,7 @@ pub fn write_first<O: Sink>(alloc: Global, world: &World, out: &mut O) -> Result
 }
 
 /// Puts the log's last line.
-pub fn write_last<O: Sink>(alloc: Global, world: &World, out: &mut O) -> Result<(), WriteStop>
+pub fn write_last<O: Sink>(alloc: Global, world: &World, out: &mut O) -> Result<(), SinkStop>
     ensures { WritesAll (O.seen out.old) (O.seen out.new) (end_text world.now.update) result }
 {
     let line = world.last_line(alloc)?;
@@ -37,7 +37,7 @@ pub fn write_update<R: Threads + Wait + Sync, O: Sink, G: Gate + Sync>(
     world: RunningWorld,
     out: &mut O,
     gate: &G,
-) -> Result<(RunningWorld, usize), WriteStop>
+) -> Result<(RunningWorld, usize), SinkStop>
     requires { world.update < 1000000 }
     ensures world { IfOk result (λ next. IsWorldAt world.config (world.update + 1) next.0) }
     ensures bytes { IfOk result
@@ -50,7 +50,7 @@ pub fn write_update<R: Threads + Wait + Sync, O: Sink, G: Gate + Sync>(
         Ok(()) => Ok((next, text.len())),
         Err(stop) => {
             drop(next);
-            Err(WriteStop::from(stop))
+            Err(stop)
         }
     }
 }
@@ -63,7 +63,7 @@ fn count_update<R: Threads + Wait + Sync, O: Sink, G: Gate + Sync>(
     sums: Sums,
     out: &mut O,
     gate: &G,
-) -> Result<(RunningWorld, Sums), WriteStop>
+) -> Result<(RunningWorld, Sums), SinkStop>
     requires update { world.update < 1000000 }
     requires sums { AreSumsOf world.config world.update sums }
     ensures world { IfOk result (λ next. IsWorldAt world.config (world.update + 1) next.0) }
@@ -84,7 +84,7 @@ fn write_updates<R: Threads + Wait + Sync, O: Sink, G: Gate + Sync>(
     updates: u32,
     out: &mut O,
     gate: &G,
-) -> Result<(World, Sums), WriteStop>
+) -> Result<(World, Sums), SinkStop>
     requires new { world.update ≡ 0 }
     requires updates { updates ≤ 1000000 }
     ensures world { IfOk result (λ ran. IsWorldAt world.config updates ran.0) }
@@ -108,7 +108,7 @@ fn write_counted<R: Threads + Wait + Sync, O: Sink, G: Gate + Sync>(
     workers: u32,
     out: &mut O,
     gate: &G,
-) -> Result<(World, Sums), WriteStop>
+) -> Result<(World, Sums), SinkStop>
     requires workers { (1 ≤ workers) × (workers ≤ 64) }
     ensures ended { IfOk result (λ ran. IsEndOf (values_of config) ran.0 ran.1) }
     ensures text { WritesAll (O.seen out.old) (O.seen out.new)
@@ -135,7 +135,7 @@ pub fn write_log<R: Threads + Wait + Sync, O: Sink, G: Gate + Sync>(
     workers: u32,
     out: &mut O,
     gate: &G,
-) -> Result<World, WriteStop>
+) -> Result<World, SinkStop>
     requires workers { (1 ≤ workers) × (workers ≤ 64) }
     ensures world { IfOk result (IsFinalWorld (values_of config)) }
     ensures text { WritesAll (O.seen out.old) (O.seen out.new)
@@ -159,7 +159,7 @@ pub fn run_counted<R: Threads + Wait + Sync, G: Gate + Sync>(
     let mut out = NoSink;
     match write_counted(rt, alloc, config, workers, &mut out, gate) {
         Ok(ran) => Ok(ran),
-        Err(WriteStop::Memory) => Err(Memory),
-        Err(WriteStop::Fault) => unreachable!(),
+        Err(SinkStop::Memory) => Err(Memory),
+        Err(SinkStop::Fault) => unreachable!(),
     }
 }

@@ -4,24 +4,23 @@ ghost use Rattle.logged_run.specs.WatchedRun.{EndsRun, IsAtEnd};
 
 use crate::publishing::Progress;
 use crate::watched_run::end_watched;
-use avida_port::Sink;
+use avida_port::{Sink, SinkStop};
 use published_world::Observer;
 use std::alloc::Global;
 use world_core::{World, WorldPicture};
-use written_texts::WriteStop;
 
 /// How the runner and the watcher of a run ended. Nothing but `end` reads it, so a run can't end
 /// by its watcher's failure where its runner failed too.
 #[derive(Drop)]
 pub(crate) struct Outcomes {
-    ran: Result<Progress, WriteStop>,
-    watched: Result<Option<u32>, WriteStop>,
+    ran: Result<Progress, SinkStop>,
+    watched: Result<Option<u32>, SinkStop>,
 }
 
 impl Outcomes {
     pub(crate) fn of(
-        ran: Result<Progress, WriteStop>,
-        watched: Result<Option<u32>, WriteStop>,
+        ran: Result<Progress, SinkStop>,
+        watched: Result<Option<u32>, SinkStop>,
     ) -> Outcomes
         ensures ran { result.ran ≡ ran }
         ensures watched { result.watched ≡ watched }
@@ -36,7 +35,7 @@ impl Outcomes {
         alloc: Global,
         observer: &mut Observer<WorldPicture>,
         watch: &mut W,
-    ) -> Result<World, WriteStop>
+    ) -> Result<World, SinkStop>
         requires { OnOk self.watched (IfOk self.ran (IsAtEnd observer.old)) }
         ensures { EndsRun self.ran self.watched (W.seen watch.old) (W.seen watch.new) result }
     {

@@ -6,7 +6,7 @@ ghost use Rattle.logged_run.specs.RunText.{IsWorldAt, run_text};
 ghost use Rattle.logged_run.specs.Watching.{ArePictures};
 
 use crate::logging::{write_first, write_last, write_update};
-use avida_port::{Gate, Memory, Sink};
+use avida_port::{Gate, Memory, Sink, SinkStop};
 use published_world::{Note, Publisher};
 use std::alloc::Global;
 use std::sync::atomic::{AtomicBool, Ordering};
@@ -14,7 +14,6 @@ use std::sync::{Arc, Wait};
 use std::thread::Threads;
 use world_config::Config;
 use world_core::{World, WorldPicture};
-use written_texts::WriteStop;
 
 /// How far a run has come: its world, the world's picture, which was published last, and a note of
 /// it. The first picture has no note.
@@ -40,7 +39,7 @@ fn write_next<R: Threads + Wait + Sync, O: Sink, G: Gate + Sync>(
     world: World,
     out: &mut O,
     gate: &G,
-) -> Result<World, WriteStop>
+) -> Result<World, SinkStop>
     requires { world.update < 1000000 }
     ensures world { IfOk result (IsWorldAt world.config (world.update + 1)) }
     ensures text { WritesAll (O.seen out.old) (O.seen out.new)
@@ -75,7 +74,7 @@ fn publish_update<R: Threads + Wait + Sync, O: Sink, G: Gate + Sync>(
     publisher: &mut Publisher<WorldPicture>,
     out: &mut O,
     gate: &G,
-) -> Result<Progress, WriteStop>
+) -> Result<Progress, SinkStop>
     requires update { progress.world.update < 1000000 }
     requires come { HasCome progress.world.config progress.world.update publisher.old progress }
     ensures come { IfOk result
@@ -92,7 +91,7 @@ fn publish_update<R: Threads + Wait + Sync, O: Sink, G: Gate + Sync>(
         }),
         Err(Memory) => {
             drop(world);
-            Err(WriteStop::Memory)
+            Err(SinkStop::Memory)
         }
     }
 }
@@ -106,7 +105,7 @@ fn publish_updates<R: Threads + Wait + Sync, O: Sink, G: Gate + Sync>(
     publisher: &mut Publisher<WorldPicture>,
     out: &mut O,
     gate: &G,
-) -> Result<Progress, WriteStop>
+) -> Result<Progress, SinkStop>
     requires updates { updates ≤ 1000000 }
     requires come { HasCome progress.world.config 0 publisher.old progress }
     ensures come { IfOk result (HasCome progress.world.config updates publisher.new) }
@@ -128,7 +127,7 @@ fn publish_log<R: Threads + Wait + Sync, O: Sink, G: Gate + Sync>(
     publisher: &mut Publisher<WorldPicture>,
     out: &mut O,
     gate: &G,
-) -> Result<Progress, WriteStop>
+) -> Result<Progress, SinkStop>
     requires { HasCome (values_of config.now) 0 publisher.old progress }
     ensures come { IfOk result (HasCome (values_of config.now) config.now.updates publisher.new) }
     ensures text { WritesAll (O.seen out.old) (O.seen out.new)
@@ -155,7 +154,7 @@ pub fn publish_run<R: Threads + Wait + Sync, O: Sink, G: Gate + Sync>(
     ended: &AtomicBool,
     out: &mut O,
     gate: &G,
-) -> Result<Progress, WriteStop>
+) -> Result<Progress, SinkStop>
     requires { IsBegun (values_of config.now) publisher.old begun.old }
     ensures { RunsToEnd (values_of config.now) publisher.new
         (O.seen out.old) (O.seen out.new) result }

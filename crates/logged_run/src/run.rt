@@ -7,14 +7,13 @@ ghost use Rattle.logged_run.specs.Watching.{GainedPictures};
 
 use crate::logging::write_log;
 use crate::watched_run::write_watched;
-use avida_port::{Gate, Sink};
+use avida_port::{Gate, Sink, SinkStop};
 use std::alloc::Global;
 use std::sync::Wait;
 use std::thread::Threads;
 use std::time::Clock;
 use world_config::Config;
 use world_core::World;
-use written_texts::WriteStop;
 
 /// Runs a configuration to its end, and writes the log. With `looks` a watcher works beside the
 /// run. After an error prefixes of the log and of the watcher's lines are written.
@@ -27,7 +26,7 @@ pub fn write_run<R: Threads + Wait + Clock + Sync, O: Sink + Send, W: Sink + Sen
     out: &mut O,
     watch: &mut W,
     gate: &G,
-) -> Result<World, WriteStop>
+) -> Result<World, SinkStop>
     requires { (1 ≤ workers) × (workers ≤ 64) }
     ensures world { IfOk result (IsFinalWorld (values_of config)) }
     ensures ok { OnOk result (GainedText (change (O.seen out.old) (O.seen out.new))

@@ -9,7 +9,7 @@ use crate::beginning::{Beginning, begin};
 use crate::outcomes::Outcomes;
 use crate::publishing::{Progress, publish_run};
 use crate::watching::{write_last_picture, write_looks};
-use avida_port::{Gate, Sink};
+use avida_port::{Gate, Sink, SinkStop};
 use published_world::{Observer, Publisher};
 use std::alloc::Global;
 use std::sync::Wait;
@@ -18,7 +18,6 @@ use std::thread::{Threads, join_mut};
 use std::time::Clock;
 use world_config::Config;
 use world_core::{World, WorldPicture};
-use written_texts::WriteStop;
 
 /// The watcher in a thread of its own, and the runner in this one. Where no thread can be made the
 /// watcher comes after the runner.
@@ -45,7 +44,7 @@ fn side_by_side<R: Threads + Wait + Clock + Sync, O: Sink, W: Sink + Send, G: Ga
     let (watched, ran) = join_mut(
         rt,
         &mut || write_looks(rt, alloc, config, observer, looks, &ended, watch),
-        &mut || -> Result<Progress, WriteStop>
+        &mut || -> Result<Progress, SinkStop>
             requires { IsBegun (values_of config.now) publisher.now begun.now }
             ensures { RunsToEnd (values_of config.entry.now) publisher.exit.now
                 (O.seen out.entry.now) (O.seen out.exit.now) result }
@@ -61,7 +60,7 @@ pub(crate) fn end_watched<W: Sink>(
     newest: Option<u32>,
     observer: &mut Observer<WorldPicture>,
     watch: &mut W,
-) -> Result<World, WriteStop>
+) -> Result<World, SinkStop>
     requires { IsAtEnd observer.old progress }
     ensures { EndsWatched progress newest (W.seen watch.old) (W.seen watch.new) result }
 {
@@ -91,7 +90,7 @@ fn run_beside<R: Threads + Wait + Clock + Sync, O: Sink, W: Sink + Send, G: Gate
     out: &mut O,
     watch: &mut W,
     gate: &G,
-) -> Result<World, WriteStop>
+) -> Result<World, SinkStop>
     requires begun { IsBegun (values_of config.now) publisher.old begun.old }
     requires observer { BeginsAs (values_of config.now) observer.old }
     ensures { RunsWatched looks (values_of config.now)
@@ -114,7 +113,7 @@ pub fn write_watched<R: Threads + Wait + Clock + Sync, O: Sink, W: Sink + Send, 
     out: &mut O,
     watch: &mut W,
     gate: &G,
-) -> Result<World, WriteStop>
+) -> Result<World, SinkStop>
     requires { (1 ≤ workers) × (workers ≤ 64) }
     ensures { RunsWatched looks (values_of config)
         (change (O.seen out.old) (O.seen out.new)) (change (W.seen watch.old) (W.seen watch.new))

@@ -3,7 +3,7 @@ ghost use Rattle.std.specs.Prelude.{◌≡◌, ◌<◌, ℕ, IfOk, None, length}
 ghost use Rattle.logged_run.specs.Prelude.{SinkState, values_of, ConfigValues, picture_of, picture_text, WritesAll};
 ghost use Rattle.logged_run.specs.Watching.{BeginsAs, HasLooked, IsHeard, LooksOn, Watches, is_news, newest_after, news, pictures_text};
 
-use avida_port::{Memory, Sink};
+use avida_port::{Memory, Sink, SinkStop};
 use published_world::{Note, Observer};
 use std::alloc::Global;
 use std::sync::Arc;
@@ -12,7 +12,6 @@ use std::thread;
 use std::time::{Clock, Duration};
 use world_config::Config;
 use world_core::{WorldPicture, picture_line};
-use written_texts::WriteStop;
 
 /// How many milliseconds a watcher sleeps.
 const PAUSE: u64 = 1;
@@ -28,7 +27,7 @@ fn is_news_of(update: u32, newest: Option<u32>, last: u32) -> bool
     }
 }
 
-fn write_line<W: Sink>(alloc: Global, picture: &WorldPicture, sink: &mut W) -> Result<(), WriteStop>
+fn write_line<W: Sink>(alloc: Global, picture: &WorldPicture, sink: &mut W) -> Result<(), SinkStop>
     ensures { WritesAll (W.seen sink.old) (W.seen sink.new)
         (picture_text (picture_of (values_of picture.now.config.value) picture.now.update)) result }
 {
@@ -45,7 +44,7 @@ fn write_news<W: Sink>(
     newest: Option<u32>,
     last: u32,
     sink: &mut W,
-) -> Result<Option<u32>, WriteStop>
+) -> Result<Option<u32>, SinkStop>
     ensures newest { IfOk result (λ after. after ≡ newest_after newest last picture.now.update) }
     ensures lines { WritesAll (W.seen sink.old) (W.seen sink.new)
         (pictures_text (values_of picture.now.config.value)
@@ -66,7 +65,7 @@ fn write_look<W: Sink>(
     observer: &mut Observer<WorldPicture>,
     newest: Option<u32>,
     sink: &mut W,
-) -> Result<Option<u32>, WriteStop>
+) -> Result<Option<u32>, SinkStop>
     ensures { (looks : ℕ) (start : SinkState)
         → HasLooked looks (values_of config.now) observer.old newest start (W.seen sink.old)
         → LooksOn looks (values_of config.now) observer.new start (W.seen sink.new) result }
@@ -86,7 +85,7 @@ pub fn write_looks<R: Clock, W: Sink>(
     looks: u32,
     ended: &AtomicBool,
     sink: &mut W,
-) -> Result<Option<u32>, WriteStop>
+) -> Result<Option<u32>, SinkStop>
     requires { BeginsAs (values_of config.now) observer.old }
     ensures { Watches looks (values_of config.now) observer.new
         (W.seen sink.old) (W.seen sink.new) result }
@@ -147,7 +146,7 @@ pub fn write_last_picture<W: Sink>(
     note: Option<Note<WorldPicture>>,
     newest: Option<u32>,
     sink: &mut W,
-) -> Result<(), WriteStop>
+) -> Result<(), SinkStop>
     requires observer { BeginsAs (values_of published.value.config.value) observer.old }
     requires note { IsHeard (values_of published.value.config.value) published.value.update note }
     ensures { WritesAll (W.seen sink.old) (W.seen sink.new)

@@ -1,7 +1,7 @@
 -- Texts that grow by one part after another, as they are written.
 use Rattle.std.proofs.Common.{◌≡◌, ◌<◌, ◌≤◌, ◌+◌, ◌-◌, ℕ, zero, suc, List, [], ◌++◌, Result, Ok, Err, sym, ap, ◌∙◌, append_assoc, append-nil, add-zero, arith, subst}
 use Rattle.avida_port.specs.Ports.{SinkState}
-use Rattle.written_texts.specs.declared.stop.WriteStop.{WriteStop}
+use Rattle.avida_port.specs.declared.sink.SinkStop.{SinkStop}
 use Rattle.written_texts.specs.WrittenText.{WritesAll}
 use Rattle.written_texts.proofs.WriteLemmas.{writes_short, writes_then}
 
@@ -22,7 +22,7 @@ text_more text part end grows n (suc k) within =
     )
 
 -- one more part is written, or stopped
-pub part_written : {T : Type 0} {a b c : SinkState} {r : Result T WriteStop}
+pub part_written : {T : Type 0} {a b c : SinkState} {r : Result T SinkStop}
     (text part : ℕ → List ℕ) (end n : ℕ) → Grows text part end → n < end
     → WritesAll {T = Unit {0}} a b (text n) (Ok tt) → WritesAll b c (part n) r
     → WritesAll a c (text (n + 1)) r
@@ -30,7 +30,7 @@ part_written {T = T} {a = a} {c = c} {r = r} text part end n grows within p q =
     subst (λ l. WritesAll {T = T} a c l r) (sym (grows n within)) (writes_then (part n) p q)
 
 -- a part stopped before the end
-pub part_stopped : {T U : Type 0} {a b c : SinkState} {e : WriteStop}
+pub part_stopped : {T U : Type 0} {a b c : SinkState} {e : SinkStop}
     (text part : ℕ → List ℕ) (end n : ℕ) → Grows text part end → n < end
     → WritesAll {T = Unit {0}} a b (text n) (Ok tt) → WritesAll {T = T} b c (part n) (Err e)
     → WritesAll {T = U} a c (text end) (Err e)

@@ -1,11 +1,9 @@
 -- How texts that are written, or stop, add up.
-use Rattle.std.proofs.Common.{◌≡◌, Result, Ok, Err, List, ℕ, [], ◌++◌, append-nil, arith, inl, inr, refl, subst}
+use Rattle.std.proofs.Common.{◌≡◌, Result, Ok, Err, List, ℕ, [], ◌++◌, ap, append-nil, arith, inl, inr, refl, subst}
 use Rattle.avida_port.specs.Ports.{SinkState, GainedPrefix, Puts}
 use Rattle.avida_port.specs.declared.sink.SinkStop.{SinkStop}
-use Rattle.avida_port.specs.declared.sink.SinkStop.TheVariants as sink
-use Rattle.written_texts.specs.declared.stop.WriteStop.{WriteStop}
-use Rattle.written_texts.specs.declared.stop.WriteStop.TheVariants as stop
-use Rattle.written_texts.specs.WrittenText.{WritesAll, write_stop_of}
+use Rattle.avida_port.specs.declared.sink.SinkStop.TheVariants as stop
+use Rattle.written_texts.specs.WrittenText.{WritesAll}
 use Rattle.written_texts.proofs.GainedLemmas.{append_known-nothing, front_short, front_then, gained_then, nothing_gained, rose_later}
 
 -- nothing is written
@@ -27,25 +25,27 @@ nothing_written a text = record {
   counts = record { faults = omega arith; wants = omega arith };
 }
 
+-- a text that is put is written, or stops where the put stops
+pub put_written : {T : Type 0} {a b : SinkState} {text : List ℕ} {r : Result T SinkStop}
+    → Puts a b text r → WritesAll a b text r
+put_written {r = Ok t} p = record { ok = p.ok; err = tt; fault = tt; counts = p.counts }
+put_written {r = Err e} p =
+    record { ok = tt; err = p.err; fault = λ is. p.fault (ap Err is); counts = p.counts }
+
 -- the put of a text stopped
 pub put_ended : {T U : Type 0} {a b : SinkState} {text : List ℕ} {e : SinkStop}
     (whole : List ℕ) → Puts {T = U} a b text (Err e) → text ≡ whole
-    → WritesAll {T = T} a b whole (Err (write_stop_of e))
-put_ended {a = a} {b = b} {e = sink.Fault} whole p same = record {
-  ok = tt;
-  err = subst (GainedPrefix a b) same p.err;
-  fault = λ is. p.fault refl;
-  counts = p.counts;
-}
-put_ended {a = a} {b = b} {e = sink.Memory} whole p same = record {
-  ok = tt;
-  err = subst (GainedPrefix a b) same p.err;
-  fault = λ is. absurd (cc);
-  counts = p.counts;
-}
+    → WritesAll {T = T} a b whole (Err e)
+put_ended {a = a} {b = b} whole p same =
+    let here = put_written p in record {
+      ok = tt;
+      err = subst (GainedPrefix a b) same here.err;
+      fault = here.fault;
+      counts = here.counts;
+    }
 
 -- a text, and a text after it
-pub writes_then : {T U : Type 0} {a b c : SinkState} {xs : List ℕ} {u : U} {r : Result T WriteStop}
+pub writes_then : {T U : Type 0} {a b c : SinkState} {xs : List ℕ} {u : U} {r : Result T SinkStop}
     (ys : List ℕ)
     → WritesAll a b xs (Ok u) → WritesAll b c ys r → WritesAll a c (xs ++ ys) r
 writes_then {xs = xs} {r = Ok t} ys p q = record {
@@ -62,7 +62,7 @@ writes_then {a = a} {b = b} {c = c} {xs = xs} {r = Err e} ys p q = record {
 }
 
 -- a text that stopped has not come to what was to follow
-pub writes_short : {T U : Type 0} {a b : SinkState} {xs : List ℕ} {e : WriteStop} (ys : List ℕ)
+pub writes_short : {T U : Type 0} {a b : SinkState} {xs : List ℕ} {e : SinkStop} (ys : List ℕ)
     → WritesAll {T = T} a b xs (Err e) → WritesAll {T = U} a b (xs ++ ys) (Err e)
 writes_short {a = a} {b = b} {xs = xs} ys p = record {
   ok = tt;
@@ -77,7 +77,7 @@ pub writes_same : {T U : Type 0} {a b : SinkState} {xs : List ℕ} {t : T} {u : 
 writes_same p = record { ok = p.ok; err = tt; fault = tt; counts = p.counts }
 
 -- a text that stopped, whatever the answer would have held
-pub stopped_same : {T U : Type 0} {a b : SinkState} {xs : List ℕ} {e : WriteStop}
+pub stopped_same : {T U : Type 0} {a b : SinkState} {xs : List ℕ} {e : SinkStop}
     → WritesAll {T = T} a b xs (Err e) → WritesAll {T = U} a b xs (Err e)
 stopped_same p = record { ok = tt; err = p.err; fault = p.fault; counts = p.counts }
 
@@ -92,7 +92,7 @@ wanting_after {xs = xs} p = record {
 }
 
 -- where no write of a sink ever failed, none stopped this text
-pub never_fails : {T : Type 0} {a b : SinkState} {text : List ℕ} (r : Result T WriteStop)
+pub never_fails : {T : Type 0} {a b : SinkState} {text : List ℕ} (r : Result T SinkStop)
     → WritesAll a b text r → b.faults ≡ 0 → r ≡ Err stop.Fault → ⊥
 never_fails (Ok t) p none is = absurd cc
 never_fails (Err e) p none is =

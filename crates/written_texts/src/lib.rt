@@ -4,9 +4,7 @@
 mod fixed_text;
 mod no_sink;
 mod piece;
-mod stop;
 
 pub use fixed_text::{push_integer, push_natural, push_spaced, push_text};
 pub use no_sink::NoSink;
 pub use piece::{PIECE_SIZE, Piece, make_room, write_byte, write_letters, write_text};
-pub use stop::WriteStop;

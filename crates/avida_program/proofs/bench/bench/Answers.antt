@@ -1,6 +1,6 @@
 use Rattle.std.proofs.Common.{◌∙◌, Err, refl}
 use Rattle.avida_program.proofs.Prelude.{err_from_is_err_and, nothing_written, bench_text}
-use Rattle.written_texts.specs.declared.stop.WriteStop.TheVariants as stop
+use Rattle.avida_port.specs.declared.sink.SinkStop.TheVariants as stop
 use Rattle.avida_program.proofs.BenchLemmas.{benched}
 use Rattle.avida_program.proofs.ReadEnds.{text_ended}
 use Rattle.avida_program.proofs.bench.bench.Goals as goal
