@@ -6,7 +6,6 @@ ghost use Rattle.avida_program.specs.TraceText.{remark_text, step_text, trace_li
 
 use avida_port::{Sink, SinkStop};
 use divide_rules::Rule;
-use genome::Genome;
 use logic_tasks::Task;
 use organism::{Remark, Traced};
 use written_texts::{

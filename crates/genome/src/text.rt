@@ -1,5 +1,5 @@
 // The two spellings of a genome.
-ghost use Rattle.std.specs.Prelude.{◌≡◌, ◌≢◌, ◌<◌, ◌++◌, length, IfOk, IfErr, OnOk, OnErr, filter_map};
+ghost use Rattle.std.specs.Prelude.{◌≡◌, ◌≢◌, ◌<◌, ◌++◌, IfOk, IfErr, OnOk, OnErr, filter_map};
 ghost use Rattle.instruction_set.specs.Letter.{letter_of_byte};
 ghost use Rattle.genome.specs.Genome.{letters};
 ghost use Rattle.genome.specs.GenomeText.{before_line_end, first_bad_byte, letters_of, spelled_by_letters, letters_text_of};

@@ -1,5 +1,5 @@
 // An organism alone, as a trace runs it.
-ghost use Rattle.std.specs.Prelude.{◌≡◌, IfOk, length};
+ghost use Rattle.std.specs.Prelude.{◌≡◌, IfOk};
 ghost use Rattle.genome.specs.Genome.{letters};
 ghost use Rattle.organism.specs.TracedStep.{trace_greatest};
 ghost use Rattle.landscape.specs.Trials.{organism_alone, traced_organism};

@@ -4,7 +4,7 @@ ghost use Rattle.lineage_log.specs.Prelude.{Letter, letters, child_of, record_of
 ghost use Rattle.lineage_log.specs.Ancestry.{line_of_descent, link_of, CanCome, IsPruned, founded_by, genome_in_tree, tree_with_death, tree_with_newcomer};
 
 use crate::ancestor::{Ancestor, Provenance};
-use crate::link::{Link, Path};
+use crate::link::Path;
 use crate::nodes::{Nodes, bury, enter};
 use avida_port::Memory;
 use genome::Genome;

@@ -1,6 +1,6 @@
 -- What the shards leave is what a world's lives leave.
 use Rattle.std.proofs.Common.{◌≡◌, ◌∙◌, refl, sym, ap, ℕ, ◌+◌, ◌<◌, ◌≤◌, ◌^◌, Bool, true, false, cond, List, [], ◌∷◌, length, map, get_or, Option, Some, None, arith}
-use Rattle.world_core.proofs.Prelude.{All, range_with_len, flat_map, enumerate_from, length-map, map-id, All-cons, All-head, All-map, All-nil, All-tail, length-map-range_with_len, IsYoung, RoundNumbers, births_from, dead_in, deaths_from, left_in, newborns_in, part_from, shard_life_at, shard_life_of, shard_lives_of, standing_in, birth_of, Delivered, Standing, slices_of, OrganismState, OrganismLife, ConfigValues, CellLife, life_at, lives_of, merit_in, no_life, slice_at, slices_at, with_id, organism_in, births_in, births_of, Occupant, AreBounded, IsBoundedIn, occupants_of, merit_or_zero, occupant_genome, birth_by, delivered_in, delivery_in, departed_from, departed_in, departure_by, round_of, staying_in, Birth, Departure}
+use Rattle.world_core.proofs.Prelude.{All, range_with_len, flat_map, enumerate_from, length-map, All-cons, All-head, All-map, All-nil, All-tail, length-map-range_with_len, IsYoung, RoundNumbers, births_from, dead_in, deaths_from, left_in, newborns_in, part_from, shard_life_at, shard_life_of, shard_lives_of, standing_in, birth_of, Delivered, Standing, slices_of, OrganismState, OrganismLife, ConfigValues, CellLife, life_at, lives_of, merit_in, no_life, slice_at, slices_at, with_id, organism_in, births_in, births_of, Occupant, AreBounded, IsBoundedIn, occupants_of, merit_or_zero, occupant_genome, delivery_at, departed_from, departed_in, departure_by, round_of, staying_in, Departure}
 use Rattle.std.proofs.Math.ListN.{get_or-map}
 use Rattle.world_core.proofs.BirthOrderLemmas.{map-both}
 use Rattle.world_core.proofs.CellTableLemmas.{merits-of, occupants_of-at, occupants_of-length, organism-with}
@@ -41,12 +41,6 @@ pub slices-are : (config : ConfigValues) (cells : List (Option Occupant))
 unfolding slices_at
 slices-are config cells os ids slices standings long were same bought =
     rw (bought, same, ← merits-of os ids long, were)
-
--- newborns with the ids of their parents are those that the shards delivered
-pub delivered-are : (ids : List ℕ) (newborns : List Delivered) (births : List Birth)
-    → births ≡ map (birth_by ids) newborns → delivered_in births ≡ newborns
-delivered-are ids newborns births named =
-    ap delivered_in named ∙ map-both (birth_by ids) (λ b. b.newborn) newborns ∙ map-id newborns
 
 -- the cells of a world as its shards have them: organisms and ids apart, the steps of each cell,
 -- and what all lives of an update share
@@ -124,13 +118,11 @@ module _ {config : ConfigValues} {update : ℕ} {cells : List (Option Occupant)}
       (sym cells-long)
 
   -- the newborns
-  pub lived-births : (newborns : List Delivered) (births : List Birth)
-      → map birth_of newborns ≡ births_from 0 shard_lives → births ≡ map (birth_by ids) newborns
-      → map delivery_in births ≡ births_of lives
+  pub lived-births : (newborns : List Delivered) → map birth_of newborns ≡ births_from 0 shard_lives
+      → map (delivery_at ids) newborns ≡ births_of lives
   unfolding births_of
-  lived-births newborns births born named =
-      ap (map delivery_in) named ∙ map-both (birth_by ids) delivery_in newborns
-      ∙ sym (map-both birth_of (delivery_by ids) newborns) ∙ ap (map (delivery_by ids)) born
+  lived-births newborns born =
+      sym (map-both birth_of (delivery_by ids) newborns) ∙ ap (map (delivery_by ids)) born
       ∙ told-are newborns_in births_in (delivery_by ids) (λ cell. (lives-as cell).births)
 
   -- the dead

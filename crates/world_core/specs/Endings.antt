@@ -3,7 +3,7 @@
 -- organism 7 stood in cell 41 as the update began, a newborn from cell 41 has the parent 7.
 use Rattle.std.specs.Prelude.{ℕ, List, [], Option, None, option_map, if◌then◌else◌, map, slice_index_or, ◌≡◌, ◌+◌, ◌++◌, ◌≤◌, ◌^◌, ◌∷◌, length, ◌<◌}
 use Rattle.world_core.specs.Prelude.{flat_map, enumerate_from, option_to_list, RoundNumbers, newborn_in, Delivered, Line, Death, Count, ConfigValues, CellLife, settings_at, Delivery, delivery_of, after_births, after_events, next_scene, world_of, Occupant, Scene, Letter, Stats, birth_lines, event_lines, next_stats, scene_stats, WhatValue, inject, clear, rate}
-use Rattle.world_core.specs.declared.ids.Birth.{Birth}
+use Rattle.world_core.specs.declared.ids.Newborns.{Newborns}
 use Rattle.world_core.specs.declared.ids.Departure.{Departure}
 use Rattle.world_config.specs.declared.limits.TheConstants.{MOST_EVENTS}
 use Rattle.world_core.specs.Scenes.{TakesIn, Grows, SceneValue, scene_in}
@@ -17,17 +17,17 @@ round_of config update =
 abbrev pub staying_in : CellLife → Option Occupant
 staying_in l = if l.died then None else l.occupant
 
--- a newborn, with its parent's cell and id
-abbrev pub delivery_in : Birth → Delivery
-delivery_in b = delivery_of b.newborn.cell b.parent (newborn_in b.newborn)
+-- a newborn of this parent, with the parent's cell
+abbrev pub delivery_from : ℕ → Delivered → Delivery
+delivery_from parent d = delivery_of d.cell parent (newborn_in d)
 
--- the newborns as the shards delivered them
-abbrev pub delivered_in : List Birth → List Delivered
-delivered_in births = map (λ b. b.newborn) births
+-- a newborn, with its parent's cell and the id of that cell
+abbrev pub delivery_at : List ℕ → Delivered → Delivery
+delivery_at ids d = delivery_from (slice_index_or ids d.cell 0) d
 
--- a newborn with the id of its parent's cell
-abbrev pub birth_by : List ℕ → Delivered → Birth
-birth_by ids d = record { parent = slice_index_or ids d.cell 0; newborn = d }
+-- all newborns of an update
+abbrev pub deliveries_in : Newborns → List Delivery
+deliveries_in births = map (delivery_at births.ids.items) births.delivered.items
 
 -- a departure from a cell, of who has this id
 abbrev pub departure : ℕ → ℕ → Departure
@@ -71,15 +71,15 @@ last_lines config scene dead births stats =
 
 -- a scene after all lives, with these dead and newborns, comes to the one after all events; a bank
 -- that took in the newborns then grows as the list of all does
-pub record Ends (config : ConfigValues) (dead : List Departure) (births : List Birth)
+pub record Ends (config : ConfigValues) (dead : List Departure) (births : Newborns)
     (before after : SceneValue) (stats : Stats) : Type 0 where
   pub scene : scene_in after
-      ≡ after_events config (with_births config (scene_in before) dead (map delivery_in births))
-  pub counts : stats ≡ scene_stats (scene_in after) (length births)
+      ≡ after_events config (with_births config (scene_in before) dead (deliveries_in births))
+  pub counts : stats ≡ scene_stats (scene_in after) (length births.delivered.items)
   pub size : length after.cells ≡ length before.cells
-  pub few : length after.everyone ≤ length before.everyone + length births + MOST_EVENTS
+  pub few : length after.everyone ≤ length before.everyone + length births.delivered.items + MOST_EVENTS
   pub first : after.first ≡ before.first
-  pub bank : (old : List (List Letter)) → TakesIn old before.bank (delivered_in births)
+  pub bank : (old : List (List Letter)) → TakesIn old before.bank births.delivered.items
       → Grows old after.bank before.everyone after.everyone
 
 -- an update leads from a scene to another one, and this is counted at its end

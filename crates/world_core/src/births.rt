@@ -4,10 +4,10 @@ ghost use Rattle.world_core.specs.Prelude.{genome_in, letters, lines_text, line_
 ghost use Rattle.log_lines.specs.Line as line;
 ghost use Rattle.world_core.specs.Bounds.{IsDelivery, AreDeliveries};
 ghost use Rattle.world_core.specs.Scenes.{HasNumber, genomes_ever, scene_in};
-ghost use Rattle.world_core.specs.Endings.{delivered_in, delivery_in};
+ghost use Rattle.world_core.specs.Endings.{deliveries_in, delivery_from};
 
 use crate::cell_table::CellTable;
-use crate::ids::Birth;
+use crate::ids::{Newborns, id_in};
 use crate::scene::Scene;
 use crate::settings::{placing_round_at, torus_of};
 use avida_port::Memory;
@@ -27,30 +27,32 @@ pub(crate) fn place_births(
     alloc: Global,
     config: &Config,
     scene: &mut Scene,
-    births: Vec<Birth>,
+    births: Newborns,
     text: &mut Vec<u8>,
 ) -> Result<(), Memory>
     requires size { length scene.old.cells ≡ config.now.width * config.now.height }
     requires births { AreDeliveries (values_of config.now) (length scene.old.cells)
-        (map delivery_in births.items) }
-    requires numbers { All (λ b. HasNumber scene.old.bank b.newborn) births.items }
+        (deliveries_in births) }
+    requires numbers { All (HasNumber scene.old.bank) births.delivered.items }
     requires few { length scene.old.everyone ≤ 2 ^ 62 + 2 ^ 60 }
     ensures scene { OnOk result (scene_in scene.new ≡ after_births (values_of config.now)
-        (scene_in scene.old) (map delivery_in births.items)) }
+        (scene_in scene.old) (deliveries_in births)) }
     ensures text { OnOk result (text.new.items
         ≡ text.old.items ++ lines_text (birth_lines (values_of config.now)
-        (scene_in scene.old) (map delivery_in births.items))) }
+        (scene_in scene.old) (deliveries_in births))) }
     ensures bank { OnOk result (scene.new.bank ≡ scene.old.bank) }
     ensures genomes { OnOk result (genomes_ever scene.new.everyone
-        ≡ genomes_ever scene.old.everyone ++ map genome_in (delivered_in births.items)) }
+        ≡ genomes_ever scene.old.everyone ++ map genome_in births.delivered.items) }
     ensures size { OnOk result (length scene.new.cells ≡ length scene.old.cells) }
     ensures everyone { OnOk result
-        (length scene.new.everyone ≡ length scene.old.everyone + length births.items) }
+        (length scene.new.everyone ≡ length scene.old.everyone + length births.delivered.items) }
     ensures first { OnOk result (scene.new.first ≡ scene.old.first) }
 {
     let placings = placings_of(alloc, config, scene, &births)?;
-    for (birth, placing) in births.into_iter().zip(placings.into_vec()) {
-        place_newborn(alloc, config, scene, birth, &placing, text)?;
+    let Newborns { delivered, ids } = births;
+    for (newborn, placing) in delivered.into_iter().zip(placings.into_vec()) {
+        let parent = id_in(&ids, newborn.cell);
+        place_newborn(alloc, config, scene, parent, newborn, &placing, text)?;
     }
     Ok(())
 }
@@ -61,33 +63,30 @@ fn placings_of(
     alloc: Global,
     config: &Config,
     scene: &Scene,
-    births: &[Birth],
+    births: &Newborns,
 ) -> Result<Placings, Memory>
     requires size { length scene.now.cells ≡ config.now.width * config.now.height }
     requires births { AreDeliveries (values_of config.now) (length scene.now.cells)
-        (map delivery_in births.now) }
+        (deliveries_in births.now) }
     requires few { length scene.now.everyone ≤ 2 ^ 62 + 2 ^ 60 }
     ensures placings { IfOk result (λ placings. placings
-        ≡ placings_of (values_of config.now) (scene_in scene.now) (map delivery_in births.now)) }
-    ensures count { IfOk result (λ placings. length placings ≡ length births.now) }
+        ≡ placings_of (values_of config.now) (scene_in scene.now) (deliveries_in births.now)) }
+    ensures count { IfOk result (λ placings. length placings ≡ length births.now.delivered.items) }
     ensures in_world { IfOk result (λ placings.
         All (λ placing. placing.cell < length scene.now.cells) placings) }
 {
     let torus = torus_of(config);
-    let parents = parents_of(alloc, births)?;
+    let parents = parents_of(alloc, &births.delivered)?;
     let mut board = board_of(alloc, scene.cells.cells())?;
     let round = placing_round_at(config, scene.update, scene.next_id());
     place(alloc, &torus, &parents, &mut board, &round)
 }
 
 /// The cells of the newborns' parents.
-fn parents_of(alloc: Global, births: &[Birth]) -> Result<Parents, Memory>
-    ensures { IfOk result (λ parents. parents ≡ map (λ b. b.newborn.cell) births.now) }
+fn parents_of(alloc: Global, newborns: &[Delivered]) -> Result<Parents, Memory>
+    ensures { IfOk result (λ parents. parents ≡ map (λ d. d.cell) newborns.now) }
 {
-    let cells = births
-        .iter()
-        .map(|birth| birth.newborn.cell)
-        .collect(alloc)?;
+    let cells = newborns.iter().map(|newborn| newborn.cell).collect(alloc)?;
     Ok(Parents::from_vec(cells))
 }
 
@@ -105,25 +104,25 @@ fn place_newborn(
     alloc: Global,
     config: &Config,
     scene: &mut Scene,
-    birth: Birth,
+    parent: u64,
+    newborn: Delivered,
     placing: &Placing,
     text: &mut Vec<u8>,
 ) -> Result<(), Memory>
     requires cell { placing.now.cell < length scene.old.cells }
     requires birth { IsDelivery (values_of config.now) (length scene.old.cells)
-        (delivery_in birth) }
-    requires number { HasNumber scene.old.bank birth.newborn }
+        (delivery_from parent newborn) }
+    requires number { HasNumber scene.old.bank newborn }
     ensures scene { OnOk result (scene_in scene.new ≡ with_newborn (values_of config.now)
-        (scene_in scene.old) (delivery_in birth, placing.now)) }
+        (scene_in scene.old) (delivery_from parent newborn, placing.now)) }
     ensures text { OnOk result (text.new.items ≡ text.old.items
-        ++ line_text (birth_line (scene_in scene.old) (delivery_in birth, placing.now))) }
+        ++ line_text (birth_line (scene_in scene.old) (delivery_from parent newborn, placing.now))) }
     ensures bank { OnOk result (scene.new.bank ≡ scene.old.bank) }
     ensures size { OnOk result (length scene.new.cells ≡ length scene.old.cells) }
     ensures everyone { OnOk result (length scene.new.everyone ≡ length scene.old.everyone + 1) }
     ensures first { OnOk result (scene.new.first ≡ scene.old.first) }
 {
     let id = scene.next_id();
-    let Birth { parent, newborn } = birth;
     let Delivered {
         handle,
         tree_genome,

@@ -6,7 +6,6 @@ ghost use Rattle.world_core.specs.Endings.{round_of};
 ghost use Rattle.world_core.specs.Population.{CanCountChange, CountsChange, IsRenewed, merit_or_zero};
 
 use crate::settings::settings_at;
-use avida_port::Memory;
 use cell_shards::{Round, Standing};
 use census::Census;
 use merit_slices::share;

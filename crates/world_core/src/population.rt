@@ -3,12 +3,12 @@ ghost use Rattle.std.specs.Prelude.{◌≡◌, ◌+◌, [], ◌<◌, ◌≤◌, 
 ghost use Rattle.world_core.specs.Prelude.{dominant_value, letters, with_genome, values_of, lives_of, dominant_of, organism_in, stats_in, births_of, LiveOn};
 ghost use Rattle.world_core.specs.Bounds.{AreBounded, AreBoundedLives};
 ghost use Rattle.world_core.specs.Scenes.{TakesIn};
-ghost use Rattle.world_core.specs.Endings.{delivered_in, delivery_in, departed_from, staying_in};
+ghost use Rattle.world_core.specs.Endings.{deliveries_in, departed_from, staying_in};
 ghost use Rattle.world_core.specs.Population.{occupant_genome};
 
 use crate::cell_table::CellTable;
 use crate::genotypes::Genotypes;
-use crate::ids::{Birth, Departure, with_ids};
+use crate::ids::{Departure, Newborns, with_ids};
 use crate::lives::{count_change, round_at, slices_by};
 use crate::sharding::{Ended, live_in_shards};
 use avida_port::{Gate, Memory};
@@ -164,7 +164,7 @@ impl Population {
         workers: u32,
         gate: &G,
         meanwhile: F,
-    ) -> Result<(Population, Vec<Birth>, Vec<Departure>, T), Memory>
+    ) -> Result<(Population, Newborns, Vec<Departure>, T), Memory>
         requires some { 1 ≤ length self.cells }
         requires update { update < GREATEST_UPDATES }
         requires workers { (1 ≤ workers) × (workers ≤ 64) }
@@ -174,14 +174,14 @@ impl Population {
         requires meanwhile { F.pre meanwhile }
         ensures cells { IfOk result (λ next. next.0.cells
             ≡ map staying_in (lives_of (values_of config.now) (update + 1) self.cells)) }
-        ensures births { IfOk result (λ next. map delivery_in next.1.items
+        ensures births { IfOk result (λ next. deliveries_in next.1
             ≡ births_of (lives_of (values_of config.now) (update + 1) self.cells)) }
         ensures dead { IfOk result (λ next. next.2.items
             ≡ departed_from 0 (lives_of (values_of config.now) (update + 1) self.cells)) }
         ensures bank { IfOk result (λ next. TakesIn self.bank next.0.bank
-            (delivered_in next.1.items)) }
+            next.1.delivered.items) }
         ensures bounds { IfOk result (λ next. AreBoundedLives (values_of config.now) (update + 1)
-            next.0.cells (map delivery_in next.1.items)) }
+            next.0.cells (deliveries_in next.1)) }
         ensures meanwhile { IfOk result (λ next. F.post meanwhile next.3) }
     {
         one_index();

@@ -2,13 +2,13 @@
 ghost use Rattle.std.specs.Prelude.{◌≡◌, ◌+◌, ◌++◌, ◌*◌, ◌<◌, ◌≤◌, ◌^◌, [], All, IfOk, OnOk, length, map};
 ghost use Rattle.world_core.specs.Prelude.{lines_text, Count, line_text, values_of, LiveOn, lives_of, update_lines, births_of, world_of};
 ghost use Rattle.world_core.specs.Bounds.{AreDeliveries};
-ghost use Rattle.world_core.specs.Endings.{Ends, IsNext, last_lines, delivered_in, delivery_in, departed_from, staying_in};
+ghost use Rattle.world_core.specs.Endings.{Ends, IsNext, last_lines, deliveries_in, departed_from, staying_in};
 ghost use Rattle.world_core.specs.Scenes.{HasNumber, TakesIn, scene_in};
 
 use crate::births::place_births;
 use crate::burials::bury;
 use crate::events::apply_events;
-use crate::ids::{Birth, Departure};
+use crate::ids::{Departure, Newborns};
 use crate::scene::Scene;
 use avida_port::{Gate, Memory};
 use log_lines::{LogLine, Stats, write_line};
@@ -60,22 +60,22 @@ fn end_update<R: Wait>(
     alloc: Global,
     config: &Config,
     scene: &mut Scene,
-    births: Vec<Birth>,
+    births: Newborns,
     dead: &[Departure],
     text: &mut Vec<u8>,
 ) -> Result<Stats, Memory>
     requires size { length scene.old.cells ≡ config.now.width * config.now.height }
     requires few { length scene.old.everyone ≤ 2 ^ 62 + 2 ^ 60 }
     requires births { AreDeliveries (values_of config.now) (length scene.old.cells)
-        (map delivery_in births.items) }
-    requires numbers { All (λ b. HasNumber scene.old.bank b.newborn) births.items }
-    ensures ends { IfOk result (Ends (values_of config.now) dead.now births.items
+        (deliveries_in births) }
+    requires numbers { All (HasNumber scene.old.bank) births.delivered.items }
+    ensures ends { IfOk result (Ends (values_of config.now) dead.now births
         scene.old scene.new) }
     ensures text { IfOk result (λ stats. text.new.items ≡ text.old.items ++ lines_text
         (last_lines (values_of config.now) (scene_in scene.old) dead.now
-        (map delivery_in births.items) stats)) }
+        (deliveries_in births) stats)) }
 {
-    let count = births.len() as u64;
+    let count = births.delivered.len() as u64;
     bury(scene, dead, text)?;
     place_births(alloc, config, scene, births, text)?;
     apply_events(rt, alloc, config, scene, text)?;
@@ -100,7 +100,7 @@ fn scene_of_lives<R: Threads + Wait + Sync, G: Gate + Sync, T: Drop, F: FnOnce()
     workers: u32,
     gate: &G,
     meanwhile: F,
-) -> Result<(Scene, Vec<Birth>, Vec<Departure>, T), Memory>
+) -> Result<(Scene, Newborns, Vec<Departure>, T), Memory>
     requires size { length scene.cells ≡ config.now.width * config.now.height }
     requires update { scene.update < GREATEST_UPDATES }
     requires workers { (1 ≤ workers) × (workers ≤ 64) }
@@ -112,14 +112,14 @@ fn scene_of_lives<R: Threads + Wait + Sync, G: Gate + Sync, T: Drop, F: FnOnce()
       everyone = scene.everyone;
       gone = [];
     }) }
-    ensures births { IfOk result (λ next. map delivery_in next.1.items
+    ensures births { IfOk result (λ next. deliveries_in next.1
         ≡ births_of (lives_of (values_of config.now) (scene.update + 1) scene.cells)) }
     ensures deliveries { IfOk result (λ next. AreDeliveries (values_of config.now)
-        (length scene.cells) (map delivery_in next.1.items)) }
+        (length scene.cells) (deliveries_in next.1)) }
     ensures dead { IfOk result (λ next. next.2.items
         ≡ departed_from 0 (lives_of (values_of config.now) (scene.update + 1) scene.cells)) }
     ensures bank { IfOk result (λ next. TakesIn scene.bank next.0.bank
-        (delivered_in next.1.items)) }
+        next.1.delivered.items) }
     ensures size { IfOk result (λ next. length next.0.cells ≡ length scene.cells) }
     ensures first { IfOk result (λ next. next.0.first ≡ scene.first) }
     ensures meanwhile { IfOk result (λ next. F.post meanwhile next.3) }

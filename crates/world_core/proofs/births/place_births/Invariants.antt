@@ -1,14 +1,14 @@
-use Rattle.std.proofs.Common.{◌≡◌, ◌+◌, ◌++◌, fold, take, length, map}
-use Rattle.world_core.proofs.Prelude.{scan, lines_text, values_of, birth_line, turns_of, with_newborn, delivery_in, scene_in}
+use Rattle.std.proofs.Common.{◌≡◌, ◌+◌, ◌++◌, fold, take, length}
+use Rattle.world_core.proofs.Prelude.{scan, lines_text, values_of, birth_line, turns_of, with_newborn, deliveries_in, scene_in}
 use Rattle.world_core.proofs.births.place_births.Given as goal
 
 -- the newborns so far stand in their cells and are told
-abbrev pub invariant-loop-birth : goal.invariant-loop-birth
-invariant-loop-birth l =
+abbrev pub invariant-loop-newborn : goal.invariant-loop-newborn
+invariant-loop-newborn l =
     let config = values_of l.config in
     let first = scene_in l.fn.scene in
     let turns = take (length l.yielded)
-    (turns_of config first (map delivery_in l.fn.births.items)) in
+    (turns_of config first (deliveries_in l.fn.births)) in
     record {
       scene : scene_in l.scene ≡ fold (with_newborn config) first turns;
       text : l.text.items ≡ l.fn.text.items

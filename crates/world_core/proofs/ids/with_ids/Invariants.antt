@@ -1,11 +1,6 @@
 use Rattle.std.proofs.Common.{◌≡◌, ◌++◌, map}
-use Rattle.world_core.proofs.Prelude.{into_iter_items, birth_by, departure_by}
+use Rattle.world_core.proofs.Prelude.{into_iter_items, departure_by}
 use Rattle.world_core.proofs.ids.with_ids.Given as goal
-
-abbrev pub invariant-loop-newborn : goal.invariant-loop-newborn
-invariant-loop-newborn l =
-    l.births.items ++ map (birth_by l.ids) (into_iter_items l.newborn-iterator)
-    ≡ map (birth_by l.ids) (into_iter_items l.initial.newborn-iterator)
 
 abbrev pub invariant-loop-cell : goal.invariant-loop-cell
 invariant-loop-cell l =

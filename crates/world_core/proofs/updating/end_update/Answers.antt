@@ -1,5 +1,5 @@
 use Rattle.std.proofs.Common.{◌≡◌, ◌∙◌, ◌++◌, ◌∷◌, [], All, ap, length, map, subst, sym, ℕ, List, arith}
-use Rattle.world_core.proofs.Prelude.{genome_in, Letter, lines_text, Count, line_text, values_of, birth_lines, event_lines, scene_stats, after_births, after_events, AreDeliveries, with_births, delivered_in, delivery_in, departure_line, HasNumber, genomes_ever, Grows, SceneValue, scene_in, Birth}
+use Rattle.world_core.proofs.Prelude.{genome_in, Letter, lines_text, Count, line_text, values_of, birth_lines, event_lines, scene_stats, after_births, after_events, AreDeliveries, with_births, deliveries_in, departure_line, HasNumber, genomes_ever, Grows, SceneValue, scene_in}
 use Rattle.world_core.proofs.GrowLemmas.{Grows_births, Grows_on}
 use Rattle.world_core.proofs.UpdateLemmas.{joined}
 use Rattle.world_core.proofs.updating.end_update.Given as given
@@ -9,10 +9,10 @@ use Rattle.world_core.proofs.updating.end_update.Goals as goal
 -- the scene once the newborns stand in their cells
 placed : (g : given.Over) (c : In_ok-place_births g) → scene_in c.place_births.new.scene
     ≡ with_births (values_of c.args.config.now) (scene_in c.args.scene.now) c.args.dead.now
-    (map delivery_in c.args.births.items)
+    (deliveries_in c.args.births)
 placed g c = c.in_ok-place_births.ensures.scene
     ∙ ap (λ (s : SceneValue). after_births (values_of c.args.config.now) (scene_in s)
-    (map delivery_in c.args.births.items)) c.in_ok-bury.ensures.scene
+    (deliveries_in c.args.births)) c.in_ok-bury.ensures.scene
 
 pub place_births-requires-clause-size : goal.place_births-requires-clause-size
 place_births-requires-clause-size g c =
@@ -21,19 +21,18 @@ place_births-requires-clause-size g c =
 pub place_births-requires-clause-births : goal.place_births-requires-clause-births
 place_births-requires-clause-births g c =
     subst (λ (n : ℕ). AreDeliveries (values_of c.args.config.now) n
-    (map delivery_in c.args.births.items))
+    (deliveries_in c.args.births))
     (sym (ap (λ (s : SceneValue). length s.cells) c.in_ok-bury.ensures.scene)) c.requires.births
 
 pub place_births-requires-clause-numbers : goal.place_births-requires-clause-numbers
 place_births-requires-clause-numbers g c =
-    subst (λ (bank : List (List Letter)). All (λ (b : Birth). HasNumber bank b.newborn)
-    c.args.births.items)
+    subst (λ (bank : List (List Letter)). All (HasNumber bank) c.args.births.delivered.items)
     (sym (ap (λ (s : SceneValue). s.bank) c.in_ok-bury.ensures.scene)) c.requires.numbers
 
 pub returns-clause-ends : goal.returns-clause-ends
 returns-clause-ends g c =
     let config = values_of c.args.config.now in
-    let births = c.args.births.items in
+    let births = c.args.births.delivered.items in
     let first = c.args.scene.now in
     let last = c.place_births.new.scene in
     let buried = c.in_ok-bury.ensures.scene in
@@ -55,9 +54,9 @@ returns-clause-ends g c =
           ∙ ap (λ (s : SceneValue). s.first) buried;
       bank = λ old takes. (let all = ap (λ (s : SceneValue). s.everyone) buried in
           let genomes = c.in_ok-place_births.ensures.genomes
-          ∙ ap (λ everyone. genomes_ever everyone ++ map genome_in (delivered_in births)) all in
+          ∙ ap (λ everyone. genomes_ever everyone ++ map genome_in births) all in
           let born : Grows old first.bank first.everyone last.everyone =
-          Grows_births old first.bank first.everyone last.everyone (delivered_in births) takes
+          Grows_births old first.bank first.everyone last.everyone births takes
           genomes in
           let same = c.in_ok-place_births.ensures.bank ∙ ap (λ (s : SceneValue). s.bank) buried in
           Grows_on old last.bank c.apply_events.new.scene.bank first.everyone last.everyone
@@ -69,7 +68,7 @@ returns-clause-ends g c =
 pub returns-clause-text : goal.returns-clause-text
 returns-clause-text g c =
     let config = values_of c.args.config.now in
-    let births = map delivery_in c.args.births.items in
+    let births = deliveries_in c.args.births in
     let dead = map (departure_line c.args.scene.now.update) c.args.dead.now in
     let start = c.args.text.now.items in
     let stats = c.stats-stats.result in

@@ -1,6 +1,5 @@
 use Rattle.std.proofs.Common.{◌∙◌, ◌++◌, [], ◌∷◌, ap, length, map, refl, subst, sym, ℕ, List, arith}
-use Rattle.world_core.proofs.Prelude.{length-map, Link, lines_text, Count, values_of, birth_lines, event_lines, Scene, scene_stats, world_of, AreDeliveries, last_lines, with_births, with_departed, delivery_in, departure_line, HasNumber, Grows, scene_in, Birth}
-use Rattle.world_core.proofs.BirthOrderLemmas.{All-unmap}
+use Rattle.world_core.proofs.Prelude.{length-map, Link, lines_text, Count, values_of, birth_lines, event_lines, Scene, scene_stats, world_of, AreDeliveries, last_lines, with_births, with_departed, deliveries_in, delivery_at, departure_line, Grows, scene_in}
 use Rattle.world_core.proofs.UpdateLemmas.{Phases, lines_of_phases, scene_of_phases, stats_of_phases, update_of_phases}
 use Rattle.world_core.proofs.updating.next_scene.Given as given
 use Rattle.world_core.proofs.updating.next_scene.Goals.{In_ok-stats}
@@ -8,10 +7,10 @@ use Rattle.world_core.proofs.updating.next_scene.Goals as goal
 
 phases : (g : given.Over) (c : In_ok-stats g)
     → Phases (values_of c.args.config.now) (world_of (scene_in c.args.scene)) c.deref.result.now
-    (map delivery_in c.in_ok-scene.births.items) (scene_in c.in_ok-scene.scene)
+    (deliveries_in c.in_ok-scene.births) (scene_in c.in_ok-scene.scene)
     (with_departed (scene_in c.in_ok-scene.scene) c.deref.result.now)
     (with_births (values_of c.args.config.now) (scene_in c.in_ok-scene.scene) c.deref.result.now
-    (map delivery_in c.in_ok-scene.births.items))
+    (deliveries_in c.in_ok-scene.births))
     (scene_in c.end_update.new.scene) c.in_ok-stats.stats
 phases g c = record {
   lived = c.in_ok-scene.ensures.scene;
@@ -22,19 +21,18 @@ phases g c = record {
   happened = c.in_ok-stats.ensures.ends.scene;
   counted = c.in_ok-stats.ensures.ends.counts
       ∙ ap (scene_stats (scene_in c.end_update.new.scene))
-      (sym (length-map c.in_ok-scene.births.items delivery_in));
+      (sym (length-map c.in_ok-scene.births.delivered.items _));
 }
 
 pub end_update-requires-clause-births : goal.end_update-requires-clause-births
 end_update-requires-clause-births g c =
     subst (λ (n : ℕ). AreDeliveries (values_of c.args.config.now) n
-    (map delivery_in c.in_ok-scene.births.items)) (sym c.in_ok-scene.ensures.size)
+    (deliveries_in c.in_ok-scene.births)) (sym c.in_ok-scene.ensures.size)
     c.in_ok-scene.ensures.deliveries
 
 pub end_update-requires-clause-numbers : goal.end_update-requires-clause-numbers
 end_update-requires-clause-numbers g c =
-    All-unmap (HasNumber c.in_ok-scene.scene.bank) (λ (b : Birth). b.newborn)
-    c.in_ok-scene.births.items c.in_ok-scene.ensures.bank.numbers
+    c.in_ok-scene.ensures.bank.numbers
 
 pub returns-clause-next : goal.returns-clause-next
 returns-clause-next g c =
@@ -51,7 +49,7 @@ returns-clause-next g c =
         ends.few,
         ap length all,
         c.in_ok-scene.ensures.deliveries.few,
-        length-map c.in_ok-scene.births.items delivery_in,
+        length-map c.in_ok-scene.births.delivered.items (delivery_at c.in_ok-scene.births.ids.items),
       );
       first = ends.first ∙ c.in_ok-scene.ensures.first;
       bank = subst (λ (before : List Link). Grows c.args.scene.bank
@@ -64,7 +62,7 @@ returns-clause-text g c =
     let config = values_of c.args.config.now in
     let scene = scene_in c.in_ok-scene.scene in
     let dead = c.deref.result.now in
-    let births = map delivery_in c.in_ok-scene.births.items in
+    let births = deliveries_in c.in_ok-scene.births in
     let stats = c.in_ok-stats.stats in
     c.in_ok-stats.ensures.text
     ∙ ap (λ (t : List ℕ). t ++ lines_text (last_lines config scene dead births stats))

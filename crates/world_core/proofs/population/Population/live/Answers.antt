@@ -1,10 +1,10 @@
 use Rattle.std.proofs.Common.{◌≡◌, ◌∙◌, ◌+◌, ◌<◌, ◌≤◌, ◌^◌, All, List, None, Option, ap, arith, get_or, length, map, subst, sum, sym, ℕ}
-use Rattle.world_core.proofs.Prelude.{length-map, round_numbers, standing_in, Letter, slices_of, values_of, lives_of, merit_in, slices_at, Delivery, births_of, Occupant, AreBounded, AreBoundedLives, occupants_of, IsKeptOf, PopulationValue, merit_or_zero, occupant_genome, TakesIn, birth_by, delivery_in, departure_by}
+use Rattle.world_core.proofs.Prelude.{length-map, round_numbers, standing_in, Letter, slices_of, values_of, lives_of, merit_in, slices_at, Delivery, births_of, Occupant, AreBounded, AreBoundedLives, occupants_of, IsKeptOf, PopulationValue, merit_or_zero, occupant_genome, TakesIn, deliveries_in, delivery_at, departure_by}
 use Rattle.world_core.proofs.BoundLemmas.{lives-bounded, lives-keep}
 use Rattle.world_core.proofs.CellTableLemmas.{occupants_of-length}
 use Rattle.world_core.proofs.CountLemmas.{GoesOn}
 use Rattle.world_core.proofs.KeptOfLemmas.{IsKeptOf-more}
-use Rattle.world_core.proofs.LivedLemmas.{LiveApart, cells-long, delivered-are, goes-on, lived-births, lived-cells, lived-dead, lived-length, merits-fit, slices-are, young-are}
+use Rattle.world_core.proofs.LivedLemmas.{LiveApart, cells-long, goes-on, lived-births, lived-cells, lived-dead, lived-length, merits-fit, slices-are, young-are}
 use Rattle.world_core.proofs.TurnLemmas.{AreRead, IsRead, all-counted, can-count-here, counted-here}
 use Rattle.world_core.proofs.population.Population.live.Given as given
 use Rattle.world_core.proofs.population.Population.live.Goals.{After-index-in-loop-cell-2, In-loop-cell, In_ok-births}
@@ -216,13 +216,13 @@ returns-clause-cells g c =
     c.in_ok-genotypes.ended.organisms.items c.in_ok-genotypes.ensures.cells
 
 -- the newborns are those of the cells' lives
-born : (g : given.Over) (c : In_ok-births g) → map delivery_in c.in_ok-births.births.items
+born : (g : given.Over) (c : In_ok-births g) → deliveries_in c.in_ok-births.births
     ≡ births_of (lives_of (values_of c.args.config.now) (c.args.update + 1) c.args.self.cells)
 born g c =
-    lived-births (apart g c) c.in_ok-genotypes.ended.births.items c.in_ok-births.births.items
+    let ids = c.in_ok-births.ensures.ids ∙ c.deref-2.ensures.value in
+    (λ i. map (delivery_at (ids i)) (c.in_ok-births.ensures.delivered i))
+    ∙ lived-births (apart g c) c.in_ok-genotypes.ended.births.items
     c.in_ok-genotypes.ensures.births
-    (c.in_ok-births.ensures.births ∙ ap (λ (ids : List ℕ). map (birth_by ids)
-    c.in_ok-genotypes.ended.births.items) c.deref-2.ensures.value)
 
 pub returns-clause-births : goal.returns-clause-births
 returns-clause-births g c = born g (goal.at.returns-clause-births g c).In_ok-births
@@ -238,8 +238,7 @@ pub returns-clause-bank : goal.returns-clause-bank
 returns-clause-bank g c =
     let newborns = c.in_ok-genotypes.ended.births.items in
     subst (TakesIn c.args.self.bank c.in_ok-genotypes.genotypes)
-    (sym (delivered-are c.deref-2.result.now newborns c.in_ok-births.births.items
-    c.in_ok-births.ensures.births))
+    (sym c.in_ok-births.ensures.delivered)
     (subst (λ (old : List (List Letter)). TakesIn old c.in_ok-genotypes.genotypes newborns)
     (ap (λ (p : PopulationValue). p.bank) c.self.view_is) c.in_ok-genotypes.ensures.bank)
 
