@@ -82,7 +82,7 @@ impl Node {
         self.lives || self.children > 0
     }
 
-    pub(crate) fn die(&mut self)
+    pub(crate) fn end_life(&mut self)
         ensures { self.new ≡ record self.old { lives = false } }
     {
         self.lives = false;

@@ -55,7 +55,7 @@ fn lay_down(nodes: &mut Nodes, id: u64) -> Option<u64>
         return None;
     };
     let node = place.get_mut();
-    node.die();
+    node.end_life();
     if node.is_needed() {
         return None;
     }

@@ -35,14 +35,14 @@ put_over_is before died last cell o gone came =
     rw (came, gone, set_over before.cells cell None (Some o))
 
 -- the scene once somebody with this link is one of all, and the bank is another one
-abbrev pub enrolled : SceneValue → Link → List (List Letter) → SceneValue
-enrolled s link bank = record s { everyone = s.everyone ++ link ∷ []; bank = bank }
+abbrev pub with_link : SceneValue → Link → List (List Letter) → SceneValue
+with_link s link bank = record s { everyone = s.everyone ++ link ∷ []; bank = bank }
 
--- who is enrolled comes into the cell
+-- who is listed comes into the cell
 pub found_is : (before now last : SceneValue) (link : Link) (bank : List (List Letter)) (id : ℕ)
-    (made organism : OrganismState) → now ≡ enrolled before link bank → id ≡ link.id
+    (made organism : OrganismState) → now ≡ with_link before link bank → id ≡ link.id
     → made ≡ organism → last ≡ with_occupant now link.cell (record { id = id; organism = made })
-    → last ≡ with_occupant (enrolled before link bank) link.cell
+    → last ≡ with_occupant (with_link before link bank) link.cell
     (record { id = link.id; organism = organism })
 found_is before now last link bank id made organism listed own same came =
     came
@@ -51,7 +51,7 @@ found_is before now last link bank id made organism listed own same came =
 -- that is a newcomer
 pub newcomer_is : (before : SceneValue) (link : Link) (bank : List (List Letter))
     (organism : OrganismState)
-    → scene_in (with_occupant (enrolled before link bank) link.cell
+    → scene_in (with_occupant (with_link before link bank) link.cell
     (record { id = link.id; organism = organism }))
     ≡ with_newcomer (scene_in before) link organism
 unfolding with_newcomer

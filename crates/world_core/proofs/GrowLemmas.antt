@@ -5,10 +5,10 @@ use Rattle.world_core.proofs.JoinLemmas.{IsPrefix-trans, each-through}
 use Rattle.world_core.proofs.StandingLemmas.{with_genome-prefix}
 
 -- a newcomer stands behind all others
-pub newcomer-enrolled : (scene : Scene) (link : Link) (organism : OrganismState)
+pub newcomer-added : (scene : Scene) (link : Link) (organism : OrganismState)
     → (with_newcomer scene link organism).everyone ≡ scene.everyone ++ link ∷ []
 unfolding with_newcomer
-newcomer-enrolled scene link organism = refl
+newcomer-added scene link organism = refl
 
 -- where nobody comes nothing is interned
 pub Grows_same : (old new : List (List Letter)) (before after : List Link) → new ≡ old

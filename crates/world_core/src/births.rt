@@ -133,7 +133,7 @@ fn place_newborn(
     } = newborn;
     let cell = placing.cell;
     tell_birth(scene, parent, cell, &origin, text)?;
-    scene.enroll(Some(parent), cell, Some(origin), tree_genome)?;
+    scene.add_newcomer(Some(parent), cell, Some(origin), tree_genome)?;
     let organism = organism_over(
         alloc,
         scene.kill(cell)?,

@@ -88,13 +88,13 @@ pub(crate) fn found_in<R: Wait>(
     ensures first { OnOk result (scene.new.first ≡ scene.old.first) }
 {
     let id = scene.next_id();
-    let handle = enroll_founder(rt, alloc, scene, cell, genome)?;
+    let handle = add_founder(rt, alloc, scene, cell, genome)?;
     let organism = founder(alloc, config, cell, nth, handle.genome)?;
     scene.put_over(id, cell, handle.number, organism)
 }
 
 /// The next id goes to a founder of this genome, which is interned. After `Memory` drop the scene.
-fn enroll_founder<R: Wait>(
+fn add_founder<R: Wait>(
     rt: &R,
     alloc: Global,
     scene: &mut Scene,
@@ -112,7 +112,7 @@ fn enroll_founder<R: Wait>(
 {
     let handle = scene.intern(rt, alloc, genome.copy(alloc)?)?;
     let tree_genome = Arc::try_clone(&handle.genome)?;
-    scene.enroll(None, cell, None, tree_genome)?;
+    scene.add_newcomer(None, cell, None, tree_genome)?;
     Ok(handle)
 }
 

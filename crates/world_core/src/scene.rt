@@ -123,7 +123,7 @@ impl Scene {
     }
 
     /// The next id goes to somebody of this genome. After `Memory` drop the scene.
-    pub(crate) fn enroll(
+    pub(crate) fn add_newcomer(
         &mut self,
         parent: Option<u64>,
         cell: u32,

@@ -1,7 +1,7 @@
 use Rattle.std.proofs.Common.{◌∙◌, ap, length, refl}
 use Rattle.world_core.proofs.Prelude.{letters, Scene}
 use Rattle.world_core.proofs.ComingLemmas.{newcomer-many, newcomer-size}
-use Rattle.world_core.proofs.GrowLemmas.{Grows_founder, newcomer-enrolled}
+use Rattle.world_core.proofs.GrowLemmas.{Grows_founder, newcomer-added}
 use Rattle.world_core.proofs.events.inject.Goals as goal
 
 pub returns-clause-size : goal.returns-clause-size
@@ -18,4 +18,4 @@ returns-clause-bank g c =
     Grows_founder c.genotypes_are_what_was_interned.ensures.one_more c.args.scene.now.bank
     c.found_in.new.scene.bank c.args.scene.now.everyone c.found_in.new.scene.everyone _
     (letters c.args.genome.now) came.bank
-    (ap (λ (s : Scene). s.everyone) came.scene ∙ newcomer-enrolled _ _ _) refl
+    (ap (λ (s : Scene). s.everyone) came.scene ∙ newcomer-added _ _ _) refl

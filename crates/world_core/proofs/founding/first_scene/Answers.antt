@@ -1,7 +1,7 @@
 use Rattle.std.proofs.Common.{◌≡◌, ◌*◌, ◌∙◌, [], ap, length, None, refl, subst, sym}
 use Rattle.world_core.proofs.Prelude.{length-replicate, letters, HasEachOnce, Link, OrganismState, values_of, Scene, next_id, with_newcomer, founder_link, founder_of, world_of, EveryoneValue, genomes_ever, SceneValue, scene_in}
 use Rattle.world_core.proofs.ComingLemmas.{empty_scene, first_world_is, newcomer-many, newcomer-size, nobody_gone}
-use Rattle.world_core.proofs.GrowLemmas.{Grows_founder, newcomer-enrolled}
+use Rattle.world_core.proofs.GrowLemmas.{Grows_founder, newcomer-added}
 use Rattle.world_core.proofs.founding.first_scene.Given as given
 use Rattle.world_core.proofs.founding.first_scene.Goals.{In_ok-found_in}
 use Rattle.world_core.proofs.founding.first_scene.Goals as goal
@@ -64,7 +64,7 @@ returns-clause-bank g c =
     let before = c.in_ok-scene.scene in
     let grows = Grows_founder interned.one_more before.bank c.found_in.new.scene.bank
     before.everyone c.found_in.new.scene.everyone _ (letters c.args.config.now.ancestor) told.bank
-    (ap (λ (s : Scene). s.everyone) told.scene ∙ newcomer-enrolled _ _ _) refl in
+    (ap (λ (s : Scene). s.everyone) told.scene ∙ newcomer-added _ _ _) refl in
     grows.each
     (subst (λ (s : SceneValue). HasEachOnce s.bank (genomes_ever s.everyone))
     (sym (start g (goal.at.returns-clause-bank g c).In_ok-found_in)) (interned.each []))

@@ -1,6 +1,6 @@
 use Rattle.std.proofs.Common.{◌≡◌, ◌∙◌, ap, arith, length, subst, sym}
 use Rattle.world_core.proofs.Prelude.{on_ok_weaker, letters, with_genome, Link, values_of, next_id, founder_link, founder_of, CanStand, SceneValue, scene_in, with_occupant}
-use Rattle.world_core.proofs.ComingLemmas.{enrolled, found_is, founder-stands, newcomer_is}
+use Rattle.world_core.proofs.ComingLemmas.{with_link, found_is, founder-stands, newcomer_is}
 use Rattle.world_core.proofs.founding.found_in.Given as given
 use Rattle.world_core.proofs.founding.found_in.Goals.{In_ok-organism}
 use Rattle.world_core.proofs.founding.found_in.Goals as goal
@@ -19,9 +19,9 @@ made g c = c.in_ok-organism.ensures
 
 -- the scene once it has come
 found : (g : given.Over) (c : In_ok-organism g) (last : SceneValue)
-    → last ≡ with_occupant c.enroll_founder.new.scene c.args.cell
+    → last ≡ with_occupant c.add_founder.new.scene c.args.cell
     (record { id = c.next_id-id.result; organism = c.in_ok-organism.organism })
-    → last ≡ with_occupant (enrolled c.args.scene.now (link g c)
+    → last ≡ with_occupant (with_link c.args.scene.now (link g c)
     (with_genome c.args.scene.now.bank (letters c.args.genome.now))) c.args.cell
     (record {
       id = next_id (scene_in c.args.scene.now);
@@ -29,7 +29,7 @@ found : (g : given.Over) (c : In_ok-organism g) (last : SceneValue)
           (letters c.args.genome.now);
     })
 found g c last came =
-    found_is c.args.scene.now c.enroll_founder.new.scene last (link g c) _
+    found_is c.args.scene.now c.add_founder.new.scene last (link g c) _
     c.next_id-id.result c.in_ok-organism.organism _ c.in_ok-handle.ensures.scene
     c.next_id-id.ensures (made g c) came
 
@@ -47,10 +47,10 @@ put_over-requires-clause-cell g c =
 
 pub put_over-requires-clause-organism : goal.put_over-requires-clause-organism
 put_over-requires-clause-organism g c =
-    subst (CanStand c.enroll_founder.new.scene.bank c.in_ok-handle.handle.number)
+    subst (CanStand c.add_founder.new.scene.bank c.in_ok-handle.handle.number)
     (sym (made g (goal.at.put_over-requires-clause-organism g c).In_ok-organism))
     (founder-stands (values_of c.args.config.now) c.args.cell c.args.nth
-    c.in_ok-handle.handle.number (letters c.args.genome.now) c.enroll_founder.new.scene.bank
+    c.in_ok-handle.handle.number (letters c.args.genome.now) c.add_founder.new.scene.bank
     c.in_ok-handle.ensures.number
     (omega (arith, c.requires.genome, c.args.config.now.greatest_length_bounds)))
 
