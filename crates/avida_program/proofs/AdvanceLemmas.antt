@@ -1,8 +1,7 @@
 -- A run that is saved and advanced goes on, and updates add up.
 use Rattle.std.proofs.Common.{◌≡◌, ◌+◌, ap, refl, ◌++◌, append_assoc, append-nil, ℕ, zero, suc, List, Ok, arith, add-suc, add-zero}
-use Rattle.avida_program.proofs.Prelude.{continued_text, later_texts, saved_state_after, saved_of, SavedState, state_of, state_of_world, saved_text, ConfigValues, rates_at, world_after, AddsUp, AdvancesExactly, AdvancesInTwo, CanAdvanceInTwo, ResumesInTwo, longer_run, CanResume, advanced_text, save_text}
+use Rattle.avida_program.proofs.Prelude.{continued_text, later_texts, saved_state_after, saved_of, SavedState, state_of, state_of_world, saved_text, ConfigValues, rates_at, world_after, AddsUp, AdvancesExactly, AdvancesInTwo, CanAdvanceInTwo, ResumesInTwo, longer_run, CanResume, advanced_text, save_text, update_after}
 use Rattle.avida_program.proofs.LongerRuns.{world_stays}
-use Rattle.avida_program.proofs.ResumeLemmas.{update_after}
 use Rattle.avida_program.proofs.SavedLemmas.{IsReadAs, read_again, reads_again}
 
 -- updates add up

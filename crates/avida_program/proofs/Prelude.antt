@@ -26,8 +26,7 @@ pub use Rattle.log_lines.specs.Line.{line_values}
 pub use Rattle.logged_run.specs.WatchedRun.{PutFailed, StopsRun}
 pub use Rattle.organism.specs.TracedStep.{trace_step_of}
 pub use Rattle.phylogeny.specs.TreeText.{pedigree_of, shape_line}
-pub use Rattle.saved_worlds.proofs.Updates.{next_update, update_of}
-pub use Rattle.saved_worlds.specs.Resuming.{config_of_head, world_of_state}
+pub use Rattle.saved_worlds.proofs.Valid.{next_state_update, update_after}
 unfoldable pub use Rattle.saved_worlds.specs.Resuming.{continued_text, next_state, saved_state_after}
 pub use Rattle.saved_worlds.specs.SavedGrammar.{ReadsSaved, saved_of}
 pub use Rattle.saved_worlds.specs.SavedState.{state_of_world}
@@ -36,6 +35,7 @@ pub use Rattle.std.proofs.lemmas.Bool.{cond-true, false≢true, lt-ltb}
 pub use Rattle.std.proofs.lemmas.Grind.{common_steps, flat_map-append}
 pub use Rattle.std.proofs.lemmas.Result.{err_from_is_err_and}
 pub use Rattle.world_config.specs.Events.{AreEvents, EventValue, WhatValue, clear, inject, rate}
+pub use Rattle.world_rules.proofs.Updates.{update_of}
 pub use Rattle.world_rules.specs.LogText.{ReplaysToLiving, updates_text}
 unfoldable pub use Rattle.world_rules.specs.LogText.{log_text}
 unfoldable pub use Rattle.world_rules.specs.Settings.{rates_at, settings_at}

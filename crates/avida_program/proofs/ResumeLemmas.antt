@@ -1,13 +1,7 @@
 -- How a saved world goes on, and how what it writes adds up.
-use Rattle.std.proofs.Common.{◌≡◌, ◌<◌, ◌+◌, ℕ, zero, suc, Result, Ok, Err, refl, sym, ap, ◌∙◌, add-zero, add-one, arith, subst}
-use Rattle.avida_program.proofs.Prelude.{SinkState, SavedState, config_of_head, continued_text, later_texts, next_state, next_text, saved_state_after, world_of_state, next_update, end_text, SinkStop, WritesAll, Grows, part_stopped, part_written}
+use Rattle.std.proofs.Common.{◌≡◌, ◌<◌, ◌+◌, ℕ, Result, Ok, Err, refl, ap, ◌∙◌, add-one, subst}
+use Rattle.avida_program.proofs.Prelude.{SinkState, SavedState, continued_text, later_texts, next_state, next_text, saved_state_after, end_text, SinkStop, WritesAll, Grows, part_stopped, part_written, update_after}
 use Rattle.written_texts.proofs.WriteLemmas.{writes_short, writes_then}
-
--- one update more
-pub next_state_update : (state : SavedState)
-    → (next_state state).head.update ≡ state.head.update + 1
-unfolding next_state
-next_state_update state = next_update (config_of_head state.head) (world_of_state state)
 
 -- no update, and one more
 pub state_begun : (state : SavedState) → state ≡ saved_state_after state 0
@@ -19,15 +13,6 @@ pub state_next : (state : SavedState) (n : ℕ)
     → saved_state_after state (n + 1) ≡ next_state (saved_state_after state n)
 unfolding saved_state_after
 state_next state n = ap (saved_state_after state) (add-one n)
-
--- the update after so many more
-pub update_after : (state : SavedState) (n : ℕ)
-    → (saved_state_after state n).head.update ≡ state.head.update + n
-unfolding saved_state_after
-update_after state zero = sym (add-zero state.head.update)
-update_after state (suc n) =
-    next_state_update (saved_state_after state n) ∙ ap (λ k. k + 1) (update_after state n)
-    ∙ omega arith
 
 -- the texts of the updates so far grow by the next one
 later_grows : (state : SavedState) (more : ℕ)

@@ -1,26 +1,12 @@
 -- A seat that interns one newborn more.
-use Rattle.std.proofs.Common.{◌≡◌, ◌∙◌, ap, refl, sym, subst, arith, ℕ, zero, suc, All, List, [], ◌∷◌, ◌++◌, map, Some, slice_get, append-nil, append_assoc}
+use Rattle.std.proofs.Common.{◌≡◌, ◌∙◌, ap, refl, sym, subst, ℕ, All, List, [], ◌∷◌, ◌++◌, map, append-nil, append_assoc}
 use Rattle.cell_shards.proofs.Prelude.{map-append, All-nil, All-push, All-weaker, entry, genotypes_of, MakesCall, SeatValue, own_calls_of, NewbornValue, HasInterned, IsNumbered, birth_of, call_for, genome_in}
 use mathlib.Core.List.{IsPrefix}
 use Rattle.genotype_bank.specs.declared.view.Call.{Call}
 use Rattle.genotype_bank.specs.declared.view.Entry.{Entry}
+use Rattle.genotype_bank.proofs.HistoryLemmas.{IsPrefix-trans}
+use Rattle.genotype_bank.proofs.DifferentLemmas.{slice_get-begins}
 use Rattle.cell_shards.specs.declared.delivered.Delivered.{Delivered}
-
--- what stands in a list stands in each that begins with it
-slice_get-begins : {A : Type 0} (xs ys : List A) (place : ℕ) (x : A) → IsPrefix xs ys
-    → slice_get xs place ≡ Some x → slice_get ys place ≡ Some x
-slice_get-begins {A = A} xs ys place x begins at =
-    subst (λ l. slice_get l place ≡ Some x) begins.1 (front xs place at)
-  where
-    front : (l : List A) (i : ℕ) → slice_get l i ≡ Some x → slice_get (l ++ begins.0) i ≡ Some x
-    front [] i none = absurd (grind (arith, none))
-    front (y ∷ l) zero here = here
-    front (y ∷ l) (suc i) there = front l i there
-
--- a list that begins one that begins another begins that
-IsPrefix-trans : {A : Type 0} (xs ys zs : List A) → IsPrefix xs ys → IsPrefix ys zs → IsPrefix xs zs
-IsPrefix-trans xs ys zs a b =
-    (a.0 ++ b.0, sym (append_assoc xs a.0 b.0) ∙ ap (λ l. l ++ b.0) a.1 ∙ b.1)
 
 -- one newborn more, of those that are left
 pub births-more : (deliveries next : List Delivered) (d : Delivered) (birth : ℕ × NewbornValue)

@@ -3,6 +3,7 @@ use Rattle.std.proofs.Common.{◌≡◌, ℕ, ◌<◌, ◌≤◌, ◌*◌, ◌==
 use Rattle.std.specs.Prelude.{nat_lt, not, slice_get, if◌then◌else◌}
 use Rattle.checkpoint.proofs.Prelude.{lt-ltb, ne_eqb, nat_tests, list_all-from_AllPass, slice_get-get_or, get_or-append_seam, image_of, machine_of_image, Machine, IsMachine, Occupant, HeadValues, OrganismValues, Placed, is_above, is_new, is_young, may_follow, may_stand, placed_of, values_in, AreSaved, MayStandThere}
 use Rattle.std.proofs.Math.ListN.{get_or-append}
+use Rattle.lineage_log.proofs.StandingLemmas.{get_seam}
 
 -- what stands in front of others in a list
 at_front : {X : Type 0} (xs ys : List X) (k : ℕ) (d : X) → k < length xs
@@ -11,13 +12,6 @@ at_front xs ys k d there =
     slice_get-get_or (xs ++ ys) k d (omega (arith, there, length-append xs ys))
     ∙ ap (λ x. Some x) (get_or-append xs ys d k there)
 
--- what stands behind some
-at_seam : {X : Type 0} (xs : List X) (y : X) (ys : List X)
-    → slice_get (xs ++ y ∷ ys) (length xs) ≡ Some y
-at_seam xs y ys =
-    slice_get-get_or (xs ++ y ∷ ys) (length xs) y (omega (arith, length-append xs (y ∷ ys)))
-    ∙ ap (λ x. Some x) (get_or-append_seam xs y ys y)
-
 module _ (head : HeadValues) (placed : List Placed) (one : Placed) (others : List Placed)
     (saved : AreSaved head (placed ++ one ∷ others)) where
   -- each of those that stand before one has a lower cell
@@ -25,7 +19,7 @@ module _ (head : HeadValues) (placed : List Placed) (one : Placed) (others : Lis
   above_those = list_all-from_AllPass (λ (p : Placed). nat_lt p.cell one.cell) placed
       (λ k d there. lt-ltb (get_or placed k d).cell one.cell
       (saved.rising k (length placed) (get_or placed k d) one there
-      (at_front placed (one ∷ others) k d there) (at_seam placed one others)).0)
+      (at_front placed (one ∷ others) k d there) (get_seam placed others one)).0)
 
   -- each of them has another id
   pub new_to_those : is_new one.occupant.id placed ≡ true
@@ -33,7 +27,7 @@ module _ (head : HeadValues) (placed : List Placed) (one : Placed) (others : Lis
       list_all-from_AllPass (λ (p : Placed). not (p.occupant.id == one.occupant.id)) placed
       (λ k d there. ap not (ne_eqb (get_or placed k d).occupant.id one.occupant.id
       (saved.rising k (length placed) (get_or placed k d) one there
-      (at_front placed (one ∷ others) k d there) (at_seam placed one others)).1))
+      (at_front placed (one ∷ others) k d there) (get_seam placed others one)).1))
 
   -- and may stand there
   pub stands_itself : MayStandThere head one

@@ -4,6 +4,7 @@ use Rattle.std.specs.Prelude.{slice_get}
 use Rattle.checkpoint.proofs.Prelude.{AllByRecursion, length-replicate, All-from_recursion, slice_get_within, Occupant, Placed, SavedState, AreSaved, MayStandThere, IsWritable}
 use Rattle.saved_worlds.specs.Resuming.{forgotten}
 use Rattle.saved_worlds.proofs.Valid.{head_up}
+use Rattle.world_laws.proofs.Scenes.{Stands}
 
 -- who stands in some cells, of which the first has this number
 abbrev pub standing_from : ℕ → List (Option Occupant) → List Placed
@@ -11,10 +12,6 @@ standing_from first [] = []
 standing_from first (None ∷ cells) = standing_from (first + 1) cells
 standing_from first (Some o ∷ cells) =
     record { cell = first; occupant = o } ∷ standing_from (first + 1) cells
-
--- somebody stands in a cell
-abbrev Stands : List (Option Occupant) → ℕ → Occupant → Type 0
-Stands cells cell o = slice_get cells cell ≡ Some (Some o)
 
 -- what holds of who stands in each cell
 all_standing : (P : Placed → Type 0) (first : ℕ) (cells : List (Option Occupant))

@@ -1,8 +1,8 @@
 -- The bank between two ends of updates.
 use Rattle.std.proofs.Common.{◌≡◌, ◌⊎◌, ℕ, ◌+◌, ◌<◌, Bool, true, List, [], ◌∷◌, ◌++◌, length, map, Contains, refl, ap, ◌∙◌, inl, inr}
 use Rattle.std.specs.Prelude.{◌↔◌, slice_index_or}
-use Rattle.event_orders.proofs.Prelude.{Contains-append_left, Contains-append_right, Contains-append_cases, Contains-push_cases, Contains-push, filter_map-append, Entry, genomes_of, interned_genome, Letter, ConfigValues, World, scene_of_lives, world_of, Gather, Intern, State, genome_entry, life_in, newborn_genomes, result_of, results_of, injections_at, IsLawful, MayGather, with_value_at, state_after_event}
-use Rattle.event_orders.proofs.Everyone.{genomes_ever, genomes_next, births_are}
+use Rattle.event_orders.proofs.Prelude.{Contains-append_left, Contains-append_right, Contains-append_cases, Contains-push_cases, Contains-push, filter_map-append, Entry, genomes_of, interned_genome, Letter, ConfigValues, World, scene_of_lives, world_of, Gather, Intern, State, genome_entry, life_in, newborn_genomes, result_of, results_of, injections_at, IsLawful, MayGather, with_value_at, state_after_event, genomes_ever}
+use Rattle.event_orders.proofs.Everyone.{genomes_next, births_are}
 use Rattle.event_orders.proofs.Going.{at_either}
 use Rattle.event_orders.proofs.Results.{lives_in, born_in, AreLives, results_are_lives, newborn_is_birth, birth_is_newborn}
 

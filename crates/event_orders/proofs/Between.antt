@@ -1,9 +1,8 @@
 -- What holds between the events of a schedule.
 use Rattle.std.proofs.Common.{◌≡◌, ℕ, zero, suc, ◌+◌, ◌<◌, ◌≤◌, true≢false, cond, List, [], ◌∷◌, ◌++◌, length, get_or, take, Some, Contains, refl, sym, ap, ◌∙◌, inl, arith, add-one, add-zero, zero-add}
 use Rattle.std.specs.Prelude.{◌↔◌, slice_get, count_by}
-use Rattle.event_orders.proofs.Prelude.{take_more, fold_push, sum_by-append, slice_get_within, get_or_from_slice_get, slice_get-get_or, genomes_of, genotypes_of, HasEachOnce, Letter, ConfigValues, World, first_world, lives_of, scene_of_lives, world_of, next_scene, next_world, world_after, ScheduleEvent, Run, Intern, Gather, Publish, Look, Hear, State, opening, MayGather, IsLawful, with_seen, state_after_event, state_after, IsSchedule, is_gather, ShowsEachUpdate}
+use Rattle.event_orders.proofs.Prelude.{take_more, fold_push, sum_by-append, slice_get_within, get_or_from_slice_get, slice_get-get_or, genomes_of, genotypes_of, HasEachOnce, Letter, ConfigValues, World, first_world, lives_of, scene_of_lives, world_of, next_scene, next_world, world_after, ScheduleEvent, Run, Intern, Gather, Publish, Look, Hear, State, opening, MayGather, IsLawful, with_seen, state_after_event, state_after, IsSchedule, is_gather, ShowsEachUpdate, genomes_ever}
 use Rattle.genome.specs.Genome.{different_of}
-use Rattle.event_orders.proofs.Everyone.{genomes_ever}
 use Rattle.event_orders.proofs.Results.{lives_in, AreLives, result_kept, results_are_lives}
 use Rattle.event_orders.proofs.Banked.{IsBanked, intern_banked, gather_members}
 use Rattle.event_orders.proofs.Pictures.{AreShown, first_shown, publish_shown, next_number}

@@ -1,6 +1,6 @@
 -- The genomes of all organisms that were ever in a world, through an update.
-use Rattle.std.proofs.Common.{◌≡◌, ◌∙◌, refl, sym, ap, ℕ, zero, suc, ◌+◌, List, [], ◌∷◌, ◌++◌, length, map, fold, Option, None, Some, arith, append_assoc, append-nil, add-one}
-use Rattle.event_orders.proofs.Prelude.{AllByRecursion, zip, flat_map, filter_map, cons_option, enumerate_from, range_with_len, map-append, length-map, map-map, Letter, ConfigValues, Occupant, World, founder_of, founder_link, first_world, ids_of, Scene, next_id, with_death, cells_from, with_newcomer, CellLife, life_of, life_at, slice_at, Delivery, delivery_of, births_by, births_in, births_of, deaths_of, after_lives, after_burials, placings_of, birth_link, child_of_birth, with_newborn, after_births, after_what, after_event, events_at, after_events, last_scene, scene_of_lives, world_of, lives_after, next_scene, next_world, world_after, newborn_genomes, injected_by, injections_at}
+use Rattle.std.proofs.Common.{◌≡◌, ◌∙◌, refl, sym, ap, ℕ, ◌+◌, List, [], ◌∷◌, ◌++◌, length, map, fold, Option, None, Some, arith, append_assoc, append-nil}
+use Rattle.event_orders.proofs.Prelude.{AllByRecursion, zip, flat_map, filter_map, cons_option, enumerate_from, range_with_len, map-append, length-map, map-map, Letter, ConfigValues, Occupant, World, founder_of, founder_link, ids_of, Scene, next_id, with_death, cells_from, with_newcomer, CellLife, life_of, life_at, slice_at, Delivery, delivery_of, births_by, births_in, births_of, deaths_of, after_lives, after_burials, placings_of, birth_link, child_of_birth, with_newborn, after_births, after_what, after_event, events_at, after_events, last_scene, scene_of_lives, world_of, newborn_genomes, injected_by, injections_at, genomes_ever}
 use Rattle.std.specs.Option.{option_to_list}
 use Rattle.birth_board.specs.declared.placing.Placing.{Placing}
 use Rattle.birth_board.proofs.PlacementLemmas.{placements_number}
@@ -9,10 +9,6 @@ use Rattle.organism.specs.OrganismState.{OrganismState}
 use Rattle.organism.specs.Lived.{life_by}
 use Rattle.world_config.specs.Events.{EventValue, WhatValue, inject, clear, rate}
 use Rattle.world_rules.specs.Settings.{torus_of, placing_round_at}
-
--- the genomes of these organisms at birth
-abbrev pub genomes_ever : List Link → List (List Letter)
-genomes_ever everyone = map (λ link. link.genome) everyone
 
 -- the genome of a newborn that is to be placed
 abbrev pub birth_genome : Delivery → List Letter
@@ -137,19 +133,6 @@ module _ (config : ConfigValues) (w : World) (lives : List CellLife) where
   genomes_next =
       all_come.genomes ∙ ap (λ u. genomes_ever w.everyone
       ++ (map birth_genome (births_of lives) ++ injections_at config u)) borne_comes.update
-
-  -- an update raises the number by one
-  pub update_next : (world_of (scene_of_lives config w lives)).update ≡ w.update + 1
-  unfolding scene_of_lives last_scene after_burials after_births after_events
-  update_next = all_come.update
-
--- the update of a world is its number
-pub update_after : (config : ConfigValues) (n : ℕ) → (world_after config n).update ≡ n
-unfolding world_after first_world next_world next_scene
-update_after config zero = refl
-update_after config (suc n) =
-    update_next config (world_after config n) (lives_after config (world_after config n))
-    ∙ (ap (λ u. u + 1) (update_after config n) ∙ add-one n)
 
 -- the newborns of a life are all born
 abbrev Bears : CellLife → Type 0

@@ -25,9 +25,9 @@ pub use Rattle.world_rules.specs.Lives.{CellLife, life_at, no_life, slice_at}
 unfoldable pub use Rattle.world_rules.specs.Lives.{life_of, lives_of}
 pub use Rattle.world_rules.specs.Picture.{PictureValue}
 unfoldable pub use Rattle.world_rules.specs.Picture.{picture_of}
-pub use Rattle.world_rules.specs.Update.{Delivery, after_lives, after_what, birth_link, births_by, births_in, child_of_birth, deaths_of, delivery_of, events_at, lives_after, world_of}
+pub use Rattle.world_rules.specs.Update.{Delivery, after_lives, after_what, birth_link, births_by, births_in, child_of_birth, deaths_of, delivery_of, events_at, world_of}
 unfoldable pub use Rattle.world_rules.specs.Update.{after_births, after_burials, after_event, after_events, births_of, last_scene, next_scene, next_world, placings_of, scene_of_lives, with_newborn}
-pub use Rattle.world_rules.specs.World.{Occupant, Scene, World, cells_from, founder_link, founder_of, ids_of, next_id}
+pub use Rattle.world_rules.specs.World.{Occupant, Scene, World, cells_from, founder_link, founder_of, genomes_ever, ids_of, next_id}
 unfoldable pub use Rattle.world_rules.specs.World.{first_world, with_death, with_newcomer}
 unfoldable pub use Rattle.world_rules.specs.WorldRun.{world_after}
 pub use mathlib.Core.List.{map-map}

@@ -5,9 +5,9 @@ use Rattle.std.specs.Prelude.{IsSome, IsNone, max, unwrap_or}
 use Rattle.event_orders.proofs.Prelude.{map-append, Contains-push, last_of, ConfigValues, World, CellLife, no_life, PictureValue, picture_of, ScheduleEvent, Run, Intern, Gather, Publish, Look, Hear, State, opening, life_in, newborn_genomes, result_of, results_of, IsLawful, with_value_at, state_after_event, IsScheduleFor}
 use borrow.Author.Count.{below_more}
 use Rattle.event_orders.proofs.Members.{last_pushed}
-use Rattle.event_orders.proofs.Everyone.{update_after, update_next}
 use Rattle.event_orders.proofs.Pictures.{picture_update}
 use Rattle.event_orders.proofs.Going.{at_same, at_either, Goes, goes_one, goes_on, goes_none, lawful_at}
+use Rattle.world_rules.proofs.Updates.{update_of, update_next}
 
 -- a newborn is interned by the seat of its cell
 abbrev IsOfSeat : (ℕ → ℕ) → ScheduleEvent → Type 0
@@ -164,7 +164,7 @@ module _ (config : ConfigValues) (seat_of : ℕ → ℕ) where
   -- so it is at the opening, after no update
   shown_first : Shown 0 (opening config)
   shown_first = record {
-    update = update_after config 0;
+    update = update_of config 0;
     published = omega arith;
     last =
         λ p at. ap (λ (q : PictureValue). q.update)

@@ -1,9 +1,10 @@
--- What a list keeps of one item more.
+-- What a list keeps of one item more, and what an option that has a value was made of.
 use Rattle.std.proofs.Common.{◌≡◌, ◌∙◌, refl, sym, cond, nat_lt, true, false, Bool, ◌≤◌, arith, ap, ℕ, ◌+◌, ◌<◌, Option, None, Some, List, [], ◌∷◌, ◌++◌, length, take, take_all, get_or, append-nil}
 use Rattle.std.specs.Prelude.{filter_map, position}
-use Rattle.std.specs.List.{before_first, cons_option, position_from, position_or_len}
+use Rattle.std.specs.List.{before_first, cons_option, position_from, position_or_len, AllByRecursion}
 use Rattle.std.proofs.lemmas.List.{take_more}
 use Rattle.std.proofs.lemmas.List.Elements.{filter_map-append}
+use Rattle.std.specs.Option.{option_map, option_and_then}
 
 -- one item more, and what is made of it
 pub filter_map-more : {A B : Type 0} (h : A → Option B) (items : List A) (at : ℕ) (d : A)
@@ -89,3 +90,21 @@ pub position_from-one_none : {A : Type 0} (p : A → Bool) (items : List A)
 position_from-one_none p items is = position_from-none p 0 items is
 
 pub ruleset counted_from_one = (position_from-one, position_from-one_none)
+
+-- what holds of all of two lists holds of all of one behind the other
+pub all_append : {X : Type 0} (P : X → Type 0) (xs ys : List X) → AllByRecursion P xs
+    → AllByRecursion P ys → AllByRecursion P (xs ++ ys)
+all_append P [] ys first rest = rest
+all_append P (x ∷ xs) ys first rest = (first.0, all_append P xs ys first.1 rest)
+
+-- what is mapped was there
+pub some_map : {A B : Type 0} (f : A → B) (o : Option A) (b : B) → option_map f o ≡ Some b
+    → (a : A) × (o ≡ Some a) × (f a ≡ b)
+some_map f None b is = absurd cc
+some_map f (Some a) b is = (a, refl, cc)
+
+-- what goes on was there
+pub some_then : {A B : Type 0} (f : A → Option B) (o : Option A) (b : B)
+    → option_and_then f o ≡ Some b → (a : A) × (o ≡ Some a) × (f a ≡ Some b)
+some_then f None b is = absurd cc
+some_then f (Some a) b is = (a, refl, is)

@@ -7,7 +7,7 @@ use Rattle.std.proofs.lemmas.List.{get_or_append_left, map_push}
 use Rattle.std.proofs.lemmas.Map.Views.{Contains-from_any, list_any-from_Contains}
 use Rattle.std.proofs.lemmas.List.Quantifiers.{all_pairs_push}
 use Rattle.genotype_bank.specs.declared.view.Call.TheVariants.{Interned, Refused}
-use Rattle.genotype_bank.proofs.HistoryLemmas.{pre_trans}
+use Rattle.genotype_bank.proofs.HistoryLemmas.{IsPrefix-trans}
 use Rattle.genotype_bank.proofs.MemberLemmas.{Contains-filter_map_permuted}
 
 -- the letters of a genome
@@ -36,6 +36,23 @@ map-insert_key eq same see alike keys key =
       list_any-map (eq key) (same (see key)) see (alike key) keys,
       map_push see keys key,
     )
+
+-- what has a place in a prefix has the same place in the whole
+pub slice_get-begins : {A : Type 0} (xs ys : List A) (i : ℕ) (x : A) → IsPrefix xs ys
+    → slice_get xs i ≡ Some x → slice_get ys i ≡ Some x
+slice_get-begins xs ys i x p e =
+    let low = slice_get_within xs i x e in
+    rw (← p.1) (slice_get_read (xs ++ p.0) _ i x refl (omega (arith, low, length-append xs p.0))
+    (sym (get_or_append_left xs p.0 x i low ∙ get_or_from_slice_get xs i x x e)))
+
+-- genotypes with one genome more begin with these genotypes
+pub with_genome-begins : (genotypes : List Letters) (genome : Letters)
+    → IsPrefix genotypes (with_genome genotypes genome)
+with_genome-begins genotypes genome =
+    elim (cases_Bool (list_any (same_letters genome) genotypes)) [
+      | inl known ↦ rw known ([], append-nil genotypes)
+      | inr new ↦ rw new (genome ∷ [], refl)
+    ]
 
 module _ (one_list : OneList) where
   -- the members that this one is not
@@ -80,21 +97,12 @@ module _ (one_list : OneList) where
       by (Interned genome) = different_of_push (genomes_of history) genome
       by Refused = rw (append-nil (genomes_of history))
 
-  -- genotypes with one genome more begin with these genotypes
-  with_genome-begins : (genotypes : List Letters) (genome : Letters)
-      → IsPrefix genotypes (with_genome genotypes genome)
-  with_genome-begins genotypes genome =
-      elim (cases_Bool (list_any (same_letters genome) genotypes)) [
-        | inl known ↦ rw known ([], append-nil genotypes)
-        | inr new ↦ rw new (genome ∷ [], refl)
-      ]
-
   -- the different ones of some genomes come first where more genomes come behind
   different_of-longer : (xs ys : List Letters)
       → IsPrefix (different_of xs) (different_of (xs ++ ys))
   different_of-longer xs [] = ([], simp append-nil)
   different_of-longer xs (y ∷ ys) = rw (← append_assoc xs (y ∷ []) ys)
-      (pre_trans (different_of xs) (different_of (xs ++ y ∷ [])) _
+      (IsPrefix-trans (different_of xs) (different_of (xs ++ y ∷ [])) _
       (rw (different_of_push xs y) (with_genome-begins (different_of xs) y))
       (different_of-longer (xs ++ y ∷ []) ys))
 
@@ -113,7 +121,7 @@ module _ (one_list : OneList) where
       )
 
   -- the test of two lists of letters is an equivalence
-  same_letters-equivalence : IsEquivalence same_letters
+  pub same_letters-equivalence : IsEquivalence same_letters
   same_letters-equivalence = record {
     refl = λ x. (one_list x x).1 refl;
     symm = same-comm;
@@ -230,14 +238,6 @@ module _ (one_list : OneList) where
         );
         once = each.once;
       }
-
-  -- what has a place in a prefix has the same place in the whole
-  slice_get-begins : (xs ys : List Letters) (i : ℕ) (x : Letters) → IsPrefix xs ys
-      → slice_get xs i ≡ Some x → slice_get ys i ≡ Some x
-  slice_get-begins xs ys i x p e =
-      let low = slice_get_within xs i x e in
-      rw (← p.1) (slice_get_read (xs ++ p.0) _ i x refl (omega (arith, low, length-append xs p.0))
-      (sym (get_or_append_left xs p.0 x i low ∙ get_or_from_slice_get xs i x x e)))
 
   -- how many numbers were given, from the number of the last genome
   pub length-with_genome : (known : List Letters) (new : Letters) (number : ℕ)

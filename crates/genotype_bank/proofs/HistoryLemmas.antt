@@ -74,9 +74,10 @@ own_seen c h history pre saw =
     rw (← pre.1) (own_front c h pre.0 (rw pre.1 saw))
 
 -- a prefix of a prefix is a prefix
-pub pre_trans : {A : Type 0} (xs ys zs : List A) → IsPrefix xs ys → IsPrefix ys zs
+pub IsPrefix-trans : {A : Type 0} (xs ys zs : List A) → IsPrefix xs ys → IsPrefix ys zs
     → IsPrefix xs zs
-pre_trans xs ys zs a b = (a.0 ++ b.0, sym (append_assoc xs a.0 b.0) ∙ ap (λ l. l ++ b.0) a.1 ∙ b.1)
+IsPrefix-trans xs ys zs a b =
+    (a.0 ++ b.0, sym (append_assoc xs a.0 b.0) ∙ ap (λ l. l ++ b.0) a.1 ∙ b.1)
 
 -- all calls are under numbers that each call has one of
 pub own_all : (c : List ℕ) (h : List Entry)

@@ -2,7 +2,7 @@
 use Rattle.std.proofs.Common.{add-one, ◌≡◌, ◌≢◌, ℕ, suc, ◌+◌, ◌%◌, ◌^◌, ◌<◌, List, [], ◌∷◌, ◌++◌, length, set, get_or, true, false, refl, sym, ap, ◌∙◌, subst, inl, inr, ⊎_elim, arith, length-append, append-nil, Some, None}
 use Rattle.genotype_bank.proofs.Prelude.{mod-add-mod, some, none, dite, IsPrefix, ℕ_discrete, get_elem?, set_here, set_again, one_turn, step, keeps, takes, gives, Allows, stepped, Catalog, View, Entry, entry, genotypes_of, is_among, idle_view, seat_share, draws_of, one_if, Carries, FitsHistory, SawOwn, genomes_in, call_in, IsBankTable, Seated, with_ticket, HasDrawn, at_turn, HasLooked, last_drawn_number, after_turn, HasReleased}
 use Rattle.genotype_bank.proofs.ViewLemmas.{within, total_set, each_set, at_end, only_set, only_keep, seats_kept, some_set, placed_set}
-use Rattle.genotype_bank.proofs.HistoryLemmas.{none_some, value, off, own_more, in_front, has_back, has_front, own_seen, pre_trans, own_all, second_case}
+use Rattle.genotype_bank.proofs.HistoryLemmas.{none_some, value, off, own_more, in_front, has_back, has_front, own_seen, IsPrefix-trans, own_all, second_case}
 use Rattle.genotype_bank.proofs.TableLemmas.{fits_rest, own_number, draws_below, drawn_lives, carried_all}
 
 -- an idle seat draws a ticket and a number of its own, and keeps the rule
@@ -123,7 +123,7 @@ serves slots id m t mine idle' nothing s k wide at small =
               holds = λ _. (mine', refl);
               saw = λ i e there c. within k.history i e there;
               recalls = λ j x there. let q = f.recalls j x there in
-                  (pre_trans x.seen v.seen k.history q.0 f.begins, q.1, q.2);
+                  (IsPrefix-trans x.seen v.seen k.history q.0 f.begins, q.1, q.2);
               once = f.once;
             };
         state = inr (
@@ -176,7 +176,7 @@ releases slots id m d has_d held mine known s k wide at small =
     let len' : length history' ≡ suc len = omega (arith, length-append k.history (e ∷ [])) in
     let here = set_here s.views id w (within s.views id v at) in
     let longer_pre : (h : List Entry) → IsPrefix h k.history → IsPrefix h history' =
-    λ h p. pre_trans h k.history history' p (e ∷ [], refl) in
+    λ h p. IsPrefix-trans h k.history history' p (e ∷ [], refl) in
     -- others do not carry the number
     let others : (j : ℕ) (u : View) → j ≢ id → get_elem? s.views j ≡ some u → (c : List ℕ)
     → ((n : ℕ) → is_among n c ≡ true → Carries u n) → (h : List Entry) → SawOwn c h k.history

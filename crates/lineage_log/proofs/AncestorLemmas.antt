@@ -25,15 +25,15 @@ cases_Option None = inl refl
 cases_Option (Some a) = inr (a, refl)
 
 -- what a test finds in a list
-pub found_any : (p : ℕ → Bool) (ids : List ℕ) → list_any p ids ≡ true → (id : ℕ) × Contains ids id
-    × (p id ≡ true)
+pub found_any : {X : Type 0} (p : X → Bool) (ids : List X) → list_any p ids ≡ true
+    → (id : X) × Contains ids id × (p id ≡ true)
 found_any p ids h =
     let a = Any-from_list_any p ids h in
     (a.1, (a.0, a.2, a.3), a.4)
 
 -- one that passes a test settles it
-pub any_found : (p : ℕ → Bool) (ids : List ℕ) (id : ℕ) → Contains ids id → p id ≡ true
-    → list_any p ids ≡ true
+pub any_found : {X : Type 0} (p : X → Bool) (ids : List X) (id : X) → Contains ids id
+    → p id ≡ true → list_any p ids ≡ true
 any_found p ids id is passes = list_any_at p ids is.0 id is.1 (ap p is.2 ∙ passes)
 
 module _ (parent_of : ℕ → Option ℕ) (older : Older parent_of) where

@@ -8,7 +8,7 @@ use Rattle.lineage_log.proofs.NodeLemmas.{Rises, by_key, first_node, other_node,
 -- ---- who lives
 
 -- one element more in front
-contains_more : (x y : ℕ) (xs : List ℕ) → Contains xs x → Contains (y ∷ xs) x
+pub contains_more : {X : Type 0} (x y : X) (xs : List X) → Contains xs x → Contains (y ∷ xs) x
 contains_more x y xs is = (suc is.0, omega (arith, is.1), is.2)
 
 -- a node that lives is among the living

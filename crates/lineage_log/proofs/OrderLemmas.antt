@@ -72,11 +72,6 @@ rises_remove (e ∷ es) id rising =
 itself : (id : ℕ) → is_at (nat_cmp id) id ≡ true
 itself id = ⊎_elim (λ here. here.1) (λ apart. absurd (apart.0 refl)) (by_key id id)
 
--- another id is another
-other_id : (id other : ℕ) → id ≢ other → is_at (nat_cmp id) other ≡ false
-other_id id other differs =
-    ⊎_elim (λ here. absurd (differs here.0)) (λ apart. apart.1) (by_key id other)
-
 -- what is put is there
 put_here : (es : List (ℕ × NodeValue)) (id : ℕ) (node : NodeValue)
     → node_at (insert_entry nat_cmp es id node) id ≡ Some node

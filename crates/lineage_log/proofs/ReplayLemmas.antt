@@ -5,7 +5,7 @@ use Rattle.lineage_log.proofs.Prelude.{and_parts, eqb-true, nat_tests, length-ap
 use Rattle.lineage_log.specs.declared.stage.Stage.{Stage}
 use Rattle.lineage_log.specs.declared.stage.Stage.TheVariants.{Dying, Placing, Happening}
 use Rattle.lineage_log.proofs.LogLaws.{went_on, place_is}
-use Rattle.lineage_log.proofs.StandingLemmas.{get_written, get_pushed, get_before, get_last, empty, none_there, People, length_without, kept_before, IsTidy, tidy_death, tidy_newcomer, tidy_renewed}
+use Rattle.lineage_log.proofs.StandingLemmas.{get_written, get_pushed, get_more, get_seam, empty, none_there, People, length_without, kept_before, IsTidy, tidy_death, tidy_newcomer, tidy_renewed}
 
 -- ---- a reader beside what the definition of replay sees
 
@@ -63,8 +63,8 @@ newcomer_kept r s genome agrees id letters is =
       arith,
       get_pushed r.people (Some genome) (Some letters) id is,
       λ (old : slice_get r.people id ≡ Some (Some letters)).
-          get_before s.genomes (genome ∷ []) letters id (agrees.kept id letters old),
-      get_last s.genomes genome,
+          get_more s.genomes (genome ∷ []) id letters (agrees.kept id letters old),
+      get_seam s.genomes [] genome,
     )
 
 -- the two agree still once a newcomer with the next id stands in a cell
@@ -190,7 +190,7 @@ first_agrees version cells cell genome few = record {
 }
 
 -- before the first line
-abbrev nobody : Seen
+abbrev pub nobody : Seen
 nobody = record { standing = []; genomes = [] }
 
 -- ---- who lives at the end

@@ -4,7 +4,7 @@ use Rattle.std.specs.Prelude.{slice_get}
 use Rattle.lineage_log.proofs.Prelude.{drop_more, slice_get_within, get_or_from_slice_get, Letter, Resident, resident_at, residents_from}
 
 -- what is left begins with the item at this place
-drop_is : {A : Type 0} (xs : List A) (i : ℕ) (x : A) → slice_get xs i ≡ Some x
+pub drop_is : {A : Type 0} (xs : List A) (i : ℕ) (x : A) → slice_get xs i ≡ Some x
     → drop i xs ≡ x ∷ drop (i + 1) xs
 drop_is xs i x is = drop_more xs i x (slice_get_within xs i x is)
     ∙ ap (λ y. y ∷ drop (i + 1) xs) (get_or_from_slice_get xs i x x is)

@@ -1,6 +1,6 @@
 -- Who stands in the cells stands there alone, is kept, and is none of those who died.
-use Rattle.std.proofs.Common.{◌≡◌, ℕ, zero, suc, ◌<◌, List, [], ◌∷◌, ◌++◌, Option, Some, None, length, refl, sym, ap, ◌∙◌, arith, inl, inr}
-use Rattle.std.specs.Prelude.{◌≢◌, ◌⊎◌, replicate, slice_get, slice_set, fold}
+use Rattle.std.proofs.Common.{◌≡◌, ℕ, zero, suc, ◌<◌, List, [], ◌∷◌, ◌++◌, Option, Some, None, length, refl, sym, ap, ◌∙◌, arith, inl, inr, cond, Bool, true, false}
+use Rattle.std.specs.Prelude.{◌≢◌, ◌⊎◌, replicate, slice_get, slice_set, fold, filter}
 use Rattle.lineage_log.proofs.Prelude.{AllByRecursion, option_to_list, length-append, length-set, slice_get_within, Letter}
 
 -- ---- lists
@@ -29,16 +29,16 @@ get_pushed (x ∷ xs) y z zero is = inl is
 get_pushed (x ∷ xs) y z (suc i) is = grind (arith, get_pushed xs y z i is)
 
 -- what a list has at a place it has there still with more behind it
-pub get_before : {A : Type 0} (xs ys : List A) (z : A) (i : ℕ) → slice_get xs i ≡ Some z
+pub get_more : {A : Type 0} (xs ys : List A) (i : ℕ) (z : A) → slice_get xs i ≡ Some z
     → slice_get (xs ++ ys) i ≡ Some z
-get_before [] ys z i is = absurd cc
-get_before (x ∷ xs) ys z zero is = is
-get_before (x ∷ xs) ys z (suc i) is = get_before xs ys z i is
+get_more [] ys i z is = absurd cc
+get_more (x ∷ xs) ys zero z is = is
+get_more (x ∷ xs) ys (suc i) z is = get_more xs ys i z is
 
--- the item at the end stands at the place that is the number of those before it
-pub get_last : {A : Type 0} (xs : List A) (y : A) → slice_get (xs ++ y ∷ []) (length xs) ≡ Some y
-get_last [] y = refl
-get_last (x ∷ xs) y = get_last xs y
+-- the item behind a list stands at the list's length
+pub get_seam : {A : Type 0} (xs ys : List A) (y : A) → slice_get (xs ++ y ∷ ys) (length xs) ≡ Some y
+get_seam [] ys y = refl
+get_seam (x ∷ xs) ys y = get_seam xs ys y
 
 -- cells in which nobody stands
 abbrev pub empty : ℕ → List (Option ℕ)
@@ -67,6 +67,16 @@ all_else : (P Q : ℕ → Type 0) → ((x : ℕ) → P x → Q x) → (xs : List
     → AllByRecursion Q xs
 all_else P Q gives [] all = tt
 all_else P Q gives (x ∷ xs) all = (gives x all.0, all_else P Q gives xs all.1)
+
+-- what holds of each item holds of each that a filter leaves
+pub all_filtered : {X : Type 0} (P : X → Type 0) (p : X → Bool) (xs : List X) → AllByRecursion P xs
+    → AllByRecursion P (filter p xs)
+all_filtered P p [] all = tt
+all_filtered P p (x ∷ xs) all =
+    elim (p x) as (λ b. AllByRecursion P (cond b (x ∷ filter p xs) (filter p xs))) [
+      | true ↦ (all.0, all_filtered P p xs all.1)
+      | false ↦ all_filtered P p xs all.1
+    ]
 
 -- ---- the people that are kept
 
@@ -162,9 +172,9 @@ module _ (standing : List (Option ℕ)) (people : People) (leaving : List ℕ)
       → slice_get (new_standing cell) c ≡ Some (Some i) → (letters : List Letter)
       × (slice_get (new_people genome) i ≡ Some (Some letters))
   new_present cell genome c i is = elim (stands_now cell c i is) [
-    | inl here ↦ (genome, rw (← here.1) (get_last people (Some genome)))
+    | inl here ↦ (genome, rw (← here.1) (get_seam people [] (Some genome)))
     | inr there ↦ let found = tidy.present c i there.1 in
-        (found.0, get_before people (Some genome ∷ []) (Some found.0) i found.1)
+        (found.0, get_more people (Some genome ∷ []) i (Some found.0) found.1)
   ]
 
   -- who stands after somebody came is none of those who died, nor who stood in the cell

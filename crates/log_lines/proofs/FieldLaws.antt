@@ -1,9 +1,9 @@
 -- What is written is read again, and what is read was written so.
 use Rattle.std.proofs.Common.{◌≡◌, ◌≢◌, ℕ, ◌<◌, ◌≤◌, ◌^◌, Bool, true, false, cond, List, [], ◌∷◌, ◌++◌, map, length, Option, Some, None, refl, sym, ap, ◌∙◌, arith, inl, inr, ◌⊎◌, eq-eqb, decimal}
-use Rattle.std.specs.Prelude.{option_and_then, option_map, ◌==◌}
-use Rattle.log_lines.proofs.Prelude.{bytes_eq, slice_split, AllByRecursion, nat_tests, common_steps, cond_some, Letter, byte_of, letter_of_byte, is_genome_length, OneNumber, Field, given, number, genome_of_word, genome_field, or_sign, each, where_true, Row, read_last, last, read_both, ◌◂◌}
+use Rattle.std.specs.Prelude.{option_map, ◌==◌}
+use Rattle.log_lines.proofs.Prelude.{bytes_eq, slice_split, AllByRecursion, nat_tests, common_steps, cond_some, Letter, byte_of, letter_of_byte, is_genome_length, OneNumber, Field, given, number, genome_of_word, genome_field, or_sign, each, where_true, Row, read_last, last, read_both, ◌◂◌, found_again, some_map, some_then}
 use Rattle.std.proofs.lemmas.Slice.Eq.{bytes_eq-Decides}
-use Rattle.log_lines.proofs.LetterLemmas.{byte_of_letter, letter_of_byte-byte_of, letter_above}
+use Rattle.log_lines.proofs.LetterLemmas.{byte_of_letter, letter_above}
 
 -- each byte is above c
 abbrev pub Above : ℕ → List ℕ → Type 0
@@ -72,18 +72,6 @@ number_law numbers least greatest wide = record {
 
 -- ---- options
 
--- what is mapped was there
-pub some_map : {A B : Type 0} (f : A → B) (o : Option A) (b : B) → option_map f o ≡ Some b
-    → (a : A) × (o ≡ Some a) × (f a ≡ b)
-some_map f None b e = absurd cc
-some_map f (Some a) b e = (a, refl, cc)
-
--- what goes on was there
-pub some_then : {A B : Type 0} (f : A → Option B) (o : Option A) (b : B)
-    → option_and_then f o ≡ Some b → (a : A) × (o ≡ Some a) × (f a ≡ Some b)
-some_then f None b e = absurd cc
-some_then f (Some a) b e = (a, refl, e)
-
 -- what a choice gives, one of its two sides gives
 pub chosen : {A : Type 0} (b : Bool) (x y : Option A) (a : A) → cond b x y ≡ Some a
     → ((b ≡ true) × (x ≡ Some a)) ⊎ ((b ≡ false) × (y ≡ Some a))
@@ -127,7 +115,7 @@ all_any (l ∷ ls) = (tt, all_any ls)
 -- a letter is read again, and was written so
 pub letters_again : (ls : List Letter) → each letter_of_byte (map byte_of ls) ≡ Some ls
 letters_again ls =
-    each_again byte_of letter_of_byte IsAny (λ l any. letter_of_byte-byte_of l) ls (all_any ls)
+    each_again byte_of letter_of_byte IsAny (λ l any. (found_again l).by_byte) ls (all_any ls)
 
 -- what is read as letters is their bytes
 pub letters_taken : (word : List ℕ) (ls : List Letter) → each letter_of_byte word ≡ Some ls

@@ -1,12 +1,12 @@
 -- What is written of a field of a log is read again, and what is read was written so.
 use Rattle.std.proofs.Common.{◌≡◌, ℕ, suc, ◌-◌, ◌<◌, List, [], ◌∷◌, ◌++◌, length, get_or, take, Some, None, refl, ap, subst, arith, inl, inr, decimal, length-append}
 use Rattle.std.specs.Prelude.{option_map, ◌==◌}
-use Rattle.log_lines.proofs.Prelude.{bytes_eq, eqb-true, take-append_seam, get_or-append_seam, Letter, byte_of, letter_of_byte, Change, Point, Insert, Delete, FitsChange, in_order, number_of, OneNumber, Field, genome_of_word, change_text, small, large, rate_name, read_lettered, read_change, change_field, over_field, base_field, changes_field, ToChange}
+use Rattle.log_lines.proofs.Prelude.{bytes_eq, eqb-true, take-append_seam, get_or-append_seam, Letter, byte_of, letter_of_byte, Change, Point, Insert, Delete, FitsChange, in_order, number_of, OneNumber, Field, genome_of_word, change_text, small, large, rate_name, read_lettered, read_change, change_field, over_field, base_field, changes_field, ToChange, find-passes, found_again, some_map, some_then}
 use Rattle.mutations.specs.declared.rate_name.RateName.{RateName}
 use Rattle.mutations.specs.declared.rate_name.RateName.TheVariants as rate
 use Rattle.mutations.specs.Rates.{name_of_rate, rate_named, rate_names}
-use Rattle.log_lines.proofs.LetterLemmas.{byte_of_letter, letter_of_byte-byte_of, letter_above, found_passes}
-use Rattle.log_lines.proofs.FieldLaws.{Above, IsField, above_append, same_bytes, chosen, number_law, letters_law, or_sign_law, where_law, field_lower, some_map, some_then}
+use Rattle.log_lines.proofs.LetterLemmas.{byte_of_letter, letter_above}
+use Rattle.log_lines.proofs.FieldLaws.{Above, IsField, above_append, same_bytes, chosen, number_law, letters_law, or_sign_law, where_law, field_lower}
 use Rattle.log_lines.proofs.ListLaws.{list_law}
 
 -- the word is the text of the change, which can be written
@@ -45,7 +45,7 @@ module _ (numbers : OneNumber) where
       omega (arith, length-append (decimal at) (byte_of letter ∷ [])) in
       let front = take-append_seam (decimal at) (byte_of letter ∷ []) in
       let end = get_or-append_seam (decimal at) (byte_of letter) [] 0 in
-      rw (n, front, end, small_law.again at fits, letter_of_byte-byte_of letter) refl
+      rw (n, front, end, small_law.again at fits, (found_again letter).by_byte) refl
 
   -- what is read as a place and a letter was written so
   lettered_takes : (make : ToChange) (mark : ℕ) (rest : List ℕ) (c : Change)
@@ -120,11 +120,7 @@ module _ (numbers : OneNumber) where
   rate_again : (name : RateName) → rate_named (name_of_rate name) ≡ Some name
   unfolding rate_named
   rate_again rate.Copy = refl
-  rate_again rate.Insert = refl
-  rate_again rate.Delete = refl
-  rate_again rate.SitePoint = refl
-  rate_again rate.SiteInsert = refl
-  rate_again rate.SiteDelete = refl
+  rate_again _ = refl
 
   -- what is read as a rate is its name
   rate_takes : (word : List ℕ) (name : RateName) → rate_named word ≡ Some name
@@ -132,16 +128,12 @@ module _ (numbers : OneNumber) where
   unfolding rate_named
   rate_takes word name is =
       same_bytes (name_of_rate name) word
-      (found_passes (λ n. bytes_eq (name_of_rate n) word) rate_names name is)
+      (find-passes (λ n. bytes_eq (name_of_rate n) word) rate_names name is)
 
   -- a rate's name has no comma
   rate_plain : (name : RateName) → Above 44 (name_of_rate name)
   rate_plain rate.Copy = search arith
-  rate_plain rate.Insert = search arith
-  rate_plain rate.Delete = search arith
-  rate_plain rate.SitePoint = search arith
-  rate_plain rate.SiteInsert = search arith
-  rate_plain rate.SiteDelete = search arith
+  rate_plain _ = search arith
 
   -- the name of a rate
   pub rate_law : IsField 44 rate_name

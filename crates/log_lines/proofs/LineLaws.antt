@@ -2,9 +2,9 @@
 -- table has the laws of `IsForm`, and the rest is said once for all forms.
 use Rattle.std.proofs.Common.{◌≡◌, ℕ, ◌<◌, true, List, [], ◌∷◌, ◌++◌, Some, refl, sym, ap, ◌∙◌, arith, inl, inr}
 use Rattle.std.specs.Prelude.{option_map}
-use Rattle.log_lines.proofs.Prelude.{bytes_eq, join_with_byte, join_with_byte-slice_split, OneNumber, Field, Row, ◌◂◌, small, large, side, death_row, arrival_then, record_row, Line, Start, Death, Birth, Injected, Cleared, Rate, Count, End, LineForm, forms, start_form, death_form, birth_form, injected_form, cleared_form, rate_form, count_form, end_form, HasForm, row_text, words_text, form_text, read_as, read_by, read_words, line_of}
+use Rattle.log_lines.proofs.Prelude.{bytes_eq, join_with_byte, join_with_byte-slice_split, OneNumber, Field, Row, ◌◂◌, small, large, side, death_row, arrival_then, record_row, Line, Start, Death, Birth, Injected, Cleared, Rate, Count, End, LineForm, forms, start_form, death_form, birth_form, injected_form, cleared_form, rate_form, count_form, end_form, HasForm, row_text, words_text, form_text, read_as, read_by, read_words, line_of, some_map}
 use Rattle.random_streams.specs.RandomStream.{greatest_side, million}
-use Rattle.log_lines.proofs.FieldLaws.{Above, IsField, IsRow, chosen, some_map, number_law, letters_law, last_law, row_law}
+use Rattle.log_lines.proofs.FieldLaws.{Above, IsField, IsRow, chosen, number_law, letters_law, last_law, row_law}
 use Rattle.log_lines.proofs.ListLaws.{times_law}
 use Rattle.log_lines.proofs.RowLaws.{words_in, joined_words, row_words, row_plain, row_takes}
 use Rattle.log_lines.proofs.KindLaws.{low, small_law, large_law, rate_law, over_law, base_law, changes_law}

@@ -1,8 +1,8 @@
 -- Lists of values: what is written of one is read again, and what is read was written so.
 use Rattle.std.proofs.Common.{◌≡◌, ℕ, ◌<◌, true, List, [], ◌∷◌, map, length, Option, Some, None, refl, sym, ap, subst, ◌∙◌, arith, inl, inr, eq-eqb}
 use Rattle.std.specs.Prelude.{option_map, ◌==◌}
-use Rattle.log_lines.proofs.Prelude.{length-map, bytes_eq, slice_split, join_with_byte, AllByRecursion, eqb-true, join_with_byte-slice_split, Field, each, list_of, times}
-use Rattle.log_lines.proofs.FieldLaws.{Above, IsField, IsRow, above_lower, above_append, not_equal, same_bytes, split_first, split_one, some_map, some_then, some_text, chosen, each_again, each_takes}
+use Rattle.log_lines.proofs.Prelude.{length-map, bytes_eq, slice_split, join_with_byte, AllByRecursion, eqb-true, join_with_byte-slice_split, Field, each, list_of, times, some_map, some_then}
+use Rattle.log_lines.proofs.FieldLaws.{Above, IsField, IsRow, above_lower, above_append, not_equal, same_bytes, split_first, split_one, some_text, chosen, each_again, each_takes}
 
 -- as many items are read as there were
 pub each_length : {X A : Type 0} (read : X → Option A) (xs : List X) (items : List A)
@@ -16,7 +16,7 @@ each_length read (x ∷ xs) items is =
 
 module _ {A : Type 0} {f : Field A} {c : ℕ} (law : IsField c f) where
   -- no item has a byte up to the bound
-  each_plain : (items : List A) → AllByRecursion f.Fits items
+  pub each_plain : (items : List A) → AllByRecursion f.Fits items
       → AllByRecursion (Above c) (map f.text items)
   each_plain [] fits = tt
   each_plain (a ∷ items) fits = (law.plain a fits.0, each_plain items fits.1)

@@ -1,10 +1,10 @@
 -- The first change of a list, from the digits and the letter that it is written with.
 use Rattle.std.proofs.Common.{◌≡◌, ◌<◌, ◌≤◌, ◌-◌, ◌∙◌, ℕ, List, [], ◌∷◌, ◌++◌, Option, Some, None, length, get_or, take, drop, refl, sym, ap, arith, inl, inr, length-append, append-nil, append_assoc}
 use Rattle.std.specs.Prelude.{option_map, ◌==◌}
-use Rattle.log_lines.proofs.Prelude.{is_ascii_digit, slice_split, cases_Bool, nat_tests, take-append_seam, get_or-append_seam, Letter, byte_of, letter_of_byte, Change, Delete, digits_len, leading_digits, number_of, small, read_lettered, read_change, ToChange, comma_then, pieces_of, read_first}
+use Rattle.log_lines.proofs.Prelude.{is_ascii_digit, slice_split, cases_Bool, nat_tests, take-append_seam, get_or-append_seam, Letter, byte_of, letter_of_byte, Change, Delete, digits_len, leading_digits, number_of, small, read_lettered, read_change, ToChange, comma_then, pieces_of, read_first, found_again}
 use Rattle.log_lines.proofs.FieldLaws.{Above, above_append, split_first, split_one}
 use Rattle.log_lines.proofs.FrontLemmas.{digits_on, digits_split, no_digits, tail_is}
-use Rattle.log_lines.proofs.LetterLemmas.{byte_of_letter, letter_above, letter_of_byte-byte_of}
+use Rattle.log_lines.proofs.LetterLemmas.{byte_of_letter, letter_above}
 
 -- the first change of a list, and the pieces behind it
 abbrev first_in : List ℕ → Option (Change × List (List ℕ))
@@ -54,7 +54,7 @@ lettered_is make front at letter is =
     let end : get_or (front ++ byte_of letter ∷ []) (length front) 0 ≡ byte_of letter =
     get_or-append_seam front (byte_of letter) [] 0 in
     let number : number_of 0 4294967295 front ≡ Some at = sym is in
-    rw (n, before, end, number, letter_of_byte-byte_of letter) refl
+    rw (n, before, end, number, (found_again letter).by_byte) refl
 
 module _ (bytes : List ℕ) (at len most : ℕ) (left : Option (List ℕ))
     (greatest : most ≡ 4294967295) (number : Some at ≡ number_of 0 most (leading_digits bytes))

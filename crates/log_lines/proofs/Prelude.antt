@@ -1,4 +1,6 @@
 -- What the proofs of this crate cite from outside most often, passed on from one place.
+pub use Rattle.genome.proofs.ListLemmas.{some_map, some_then}
+pub use Rattle.instruction_set.proofs.LetterLemmas.{find-passes, found_again}
 pub use Rattle.instruction_set.specs.Letter.{letter_table}
 unfoldable pub use Rattle.instruction_set.specs.Letter.{letter_of_byte}
 pub use Rattle.log_lines.specs.Fields.{Field, each, genome_field, given, list_of, number, or_sign, where_true}

@@ -1,13 +1,8 @@
 -- All indels that a pass draws are of its kind.
-use Rattle.std.proofs.Common.{ℕ, zero, suc, eqb, Bool, true, false, cond, List, [], ◌∷◌, ◌++◌}
-use Rattle.mutations.proofs.Prelude.{AllByRecursion, Change, Indel, Insertion, Deletion, IndelTest, RateNumbers, LengthRange, Drawn, none_by, Draft, Spot, indel_at, test_at, site_rate, site_indel, indels_from, site_indels, indels}
+use Rattle.std.proofs.Common.{ℕ, zero, suc, eqb, Bool, true, false, cond}
+use Rattle.mutations.proofs.Prelude.{AllByRecursion, Indel, Insertion, Deletion, IndelTest, RateNumbers, LengthRange, Drawn, none_by, Draft, Spot, indel_at, test_at, site_rate, site_indel, indels_from, site_indels, indels}
 use Rattle.mutations.proofs.IndelLemmas.{IsIndel, picked}
-
--- two lists of one kind
-pub all-append : (P : Change → Type 0) (one two : List Change) → AllByRecursion P one
-    → AllByRecursion P two → AllByRecursion P (one ++ two)
-all-append P [] two first second = second
-all-append P (change ∷ one) two first second = (first.0, all-append P one two first.1 second)
+use Rattle.genome.proofs.ListLemmas.{all_append}
 
 -- all changes that are drawn are of a kind
 abbrev pub AreOfKind : Indel → Drawn → Type 0
@@ -30,7 +25,7 @@ indels_from-kind : (test : IndelTest) (words : ℕ → ℕ) (left : ℕ) (spot :
     → AreOfKind test.kind (indels_from test words left spot)
 indels_from-kind test words zero spot = tt
 indels_from-kind test words (suc left) spot =
-    all-append (IsIndel test.kind) _ _ (site_indel-kind test words _ spot)
+    all_append (IsIndel test.kind) _ _ (site_indel-kind test words _ spot)
     (indels_from-kind test words left _)
 
 -- what the tests of all letters draw
@@ -44,6 +39,6 @@ site_indels-kind test words draft =
 pub indels-kind : (kind : Indel) (rates : RateNumbers) (range : LengthRange) (words : ℕ → ℕ)
     (draft : Draft) → AreOfKind kind (indels kind rates range words draft)
 indels-kind kind rates range words draft =
-    all-append (IsIndel kind) _ _
+    all_append (IsIndel kind) _ _
     (site_indels-kind (test_at kind (site_rate kind rates) range) words draft)
     (indel-kind kind _ words _ _)

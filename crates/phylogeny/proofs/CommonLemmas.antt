@@ -1,11 +1,12 @@
 -- The latest common ancestor is an ancestor of all who live, and no greater id is.
-use Rattle.std.proofs.Common.{◌≡◌, ℕ, zero, suc, ◌+◌, ◌-◌, ◌<◌, ◌≤◌, Bool, true, false, eqb, List, [], ◌∷◌, Option, Some, None, length, get_or, max, unwrap_or, refl, sym, ap, subst, ◌∙◌, arith, inl, inr}
+use Rattle.std.proofs.Common.{◌≡◌, ℕ, zero, suc, ◌+◌, ◌-◌, ◌<◌, ◌≤◌, Bool, true, false, eqb, List, [], ◌∷◌, Option, Some, None, length, get_or, max, unwrap_or, refl, sym, ap, subst, arith, inl, inr}
 use Rattle.std.specs.Prelude.{All, Contains, filter}
-use Rattle.phylogeny.proofs.Prelude.{fold, last_or, list_all, list_any, range_with_len, reduce, cases_Bool, eqb-true, or_cases, or_left, or_right, nat_tests, common_steps, AllPass-from_list_all, list_all-from_AllPass, ancestors_within, Dweller, Pedigree, descends_from, founding_ancestor_of, is_common, is_kept_id, most_recent_common_ancestor, TellsLatestCommon, AreBelow, IsPedigree, living_from, parent_at, Older, line}
+use Rattle.phylogeny.proofs.Prelude.{fold, last_or, list_all, range_with_len, reduce, cases_Bool, eqb-true, nat_tests, common_steps, AllPass-from_list_all, list_all-from_AllPass, ancestors_within, Dweller, Pedigree, descends_from, founding_ancestor_of, is_common, is_kept_id, most_recent_common_ancestor, TellsLatestCommon, AreBelow, IsPedigree, living_from, parent_at, Older, line, any_found, found_any}
 use Rattle.std.proofs.lemmas.List.Elements.{All-contains, Contains-get_or}
 use Rattle.phylogeny.proofs.AncestorLemmas.{child_root, founder_in, line_head}
 use Rattle.phylogeny.proofs.TokenLemmas.{is_among, none_above}
 use Rattle.phylogeny.proofs.WalkLemmas.{everybody, kept_from, kept_is_all, tree}
+use Rattle.lineage_log.proofs.LivingLemmas.{contains_more}
 
 -- ---- lists of numbers
 
@@ -61,38 +62,15 @@ last_among x (y ∷ ys) = grind (arith, common_steps, last_among y ys)
 
 -- ---- lists of those who live
 
--- a member of a list is a member with one item more in front
-contains_later : {X : Type 0} (x y : X) (xs : List X) → Contains xs x → Contains (y ∷ xs) x
-contains_later x y xs there =
-    (suc there.0, (let within : there.0 < length xs = there.1 in omega arith), there.2)
-
 -- where not all members pass a test, there is one that fails
 first_fails : {X : Type 0} (p : X → Bool) (xs : List X) → list_all p xs ≡ false
     → (x : X) × Contains xs x × (p x ≡ false)
 first_fails p [] is = absurd cc
 first_fails {X} p (x ∷ xs) is = elim (cases_Bool (p x)) [
   | inl passes ↦
-      let so = first_fails p xs (rw passes at is) in (so.0, contains_later so.0 x xs so.1, so.2)
+      let so = first_fails p xs (rw passes at is) in (so.0, contains_more so.0 x xs so.1, so.2)
   | inr fails ↦ (x, (0, omega arith, refl), fails)
 ]
-
--- where the test says that some member passes, there is one that does
-some_passes : {X : Type 0} (p : X → Bool) (xs : List X) → list_any p xs ≡ true
-    → (x : X) × Contains xs x × (p x ≡ true)
-some_passes p [] is = absurd cc
-some_passes p (x ∷ xs) is = elim (or_cases (p x) (list_any p xs) is) [
-  | inl passes ↦ (x, (0, omega arith, refl), passes)
-  | inr later ↦ let so = some_passes p xs later in (so.0, contains_later so.0 x xs so.1, so.2)
-]
-
--- where a member passes, the test says that some do
-any_passes : {X : Type 0} (p : X → Bool) (xs : List X) (x : X) → Contains xs x → p x ≡ true
-    → list_any p xs ≡ true
-any_passes p [] x there passes = absurd (omega (arith, there.1))
-any_passes p (y ∷ ys) x (zero, within, is) passes =
-    or_left (p y) (list_any p ys) (ap p is ∙ passes)
-any_passes p (y ∷ ys) x (suc k, within, is) passes =
-    or_right (p y) (list_any p ys) (any_passes p ys x (k, omega arith, is) passes)
 
 -- where the test says that all pass, each member does
 each_passes : {X : Type 0} (p : X → Bool) (xs : List X) → list_all p xs ≡ true → (x : X)
@@ -166,7 +144,7 @@ module _ (parents standing : List (Option ℕ)) (sound : IsPedigree parents stan
       let bound = lives_below who lives in
       let below = line_below (parent_at parents) sound.older who.id who.id id descends in
       let kept =
-      any_passes (descends_from here id) (everybody parents standing) who lives descends in
+      any_found (descends_from here id) (everybody parents standing) who lives descends in
       let in_kept = filter_keeps (is_kept_id here) (range_with_len 0 (length parents - 0)) id
       (everyone_has id (omega (arith, bound, below))) kept in
       filter_keeps (is_common here) (kept_from parents standing 0) id in_kept common
@@ -179,7 +157,7 @@ module _ (parents standing : List (Option ℕ)) (sound : IsPedigree parents stan
       let among = filter_holds (is_common here) (kept_from parents standing 0) id greatest.0 in
       let kept = filter_holds (is_kept_id here) (range_with_len 0 (length parents - 0))
       id among.1 in
-      let someone = some_passes (descends_from here id) (everybody parents standing) kept.0 in (
+      let someone = found_any (descends_from here id) (everybody parents standing) kept.0 in (
         among.0,
         λ other shared. greatest.1 other (common_is_found other someone.0 someone.1 shared),
         All-from_contained

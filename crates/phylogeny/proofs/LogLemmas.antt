@@ -7,9 +7,9 @@ use Rattle.lineage_log.specs.LogGrammar.{IsGoodLog}
 use Rattle.lineage_log.specs.Replay.{Seen, replay_of, residents_from, seen_all, seen_on}
 use Rattle.lineage_log.proofs.LogLaws.{went_on, whole_is}
 use Rattle.lineage_log.proofs.ReplayLemmas.{birth_told}
-use Rattle.lineage_log.proofs.StandingLemmas.{length_without}
+use Rattle.lineage_log.proofs.StandingLemmas.{length_without, empty}
 use Rattle.phylogeny.proofs.ListLemmas.{get_replicated}
-use Rattle.phylogeny.proofs.ReaderLemmas.{below_with, nobody, IsAt, IsPlaceAt, within_gives, tested, death_at, newcomer_at, next_id}
+use Rattle.phylogeny.proofs.ReaderLemmas.{below_with, IsAt, IsPlaceAt, within_gives, tested, death_at, newcomer_at, next_id}
 
 -- ---- what the lines that are left tell
 
@@ -200,9 +200,9 @@ founded : (version width height cell : ℕ) (genome : List Letter)
 founded version width height cell genome = record {
   as_many = refl;
   same = refl;
-  below = below_with 0 (nobody (width * height)) cell 0 refl
+  below = below_with 0 (empty (width * height)) cell 0 refl
       (λ c id is.
-      let none : get_or (nobody (width * height)) c None ≡ None =
+      let none : get_or (empty (width * height)) c None ≡ None =
       get_replicated (width * height) c None in absurd cc);
 }
 
@@ -229,7 +229,7 @@ told_by (Start version width height cell genome ∷ lines) q good is =
         few = omega (
           arith,
           rest.cells,
-          length-set (nobody (width * height)) cell (Some 0),
+          length-set (empty (width * height)) cell (Some 0),
           length-replicate {A = Option ℕ} (width * height) None,
           few,
         );

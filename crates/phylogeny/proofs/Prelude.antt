@@ -1,6 +1,7 @@
 -- What the proofs of this crate cite from outside most often, passed on from one place.
 pub use Rattle.instruction_set.specs.declared.letter.Letter.{Letter}
-pub use Rattle.lineage_log.proofs.AncestorLemmas.{Older, line, line_is}
+pub use Rattle.lineage_log.proofs.AncestorLemmas.{Older, any_found, found_any, line, line_is}
+pub use Rattle.lineage_log.proofs.StandingLemmas.{all_filtered}
 pub use Rattle.lineage_log.specs.Ancestry.{ancestors_within}
 pub use Rattle.lineage_log.specs.Order.{After, Before, LogPlace, Within, at_next_update, opened, told, told_all, within_if}
 unfoldable pub use Rattle.lineage_log.specs.Order.{told_birth, told_cleared, told_count, told_death, told_end, told_injected, told_rate, told_start}
@@ -14,7 +15,7 @@ unfoldable pub use Rattle.phylogeny.specs.TreeText.{pedigree_of}
 pub use Rattle.phylogeny.specs.declared.depths.Root.{Root}
 pub use Rattle.phylogeny.specs.declared.shape.Shape.{Shape}
 pub use Rattle.std.proofs.Math.ListN.{length-append, length-replicate, length-set}
-pub use Rattle.std.proofs.lemmas.Bool.{and_parts, cases_Bool, eqb-true, or_cases, or_left, or_right}
+pub use Rattle.std.proofs.lemmas.Bool.{and_parts, cases_Bool, eqb-true}
 pub use Rattle.std.proofs.lemmas.Bool.Decides.{nat_tests}
 pub use Rattle.std.proofs.lemmas.Grind.{common_steps}
 pub use Rattle.std.proofs.lemmas.List.{drop_all, drop_more, get_or_default}

@@ -1,6 +1,6 @@
 -- What a reader of a log knows of its organisms, beside the pedigree so far.
 use Rattle.std.proofs.Common.{◌≡◌, ℕ, zero, suc, ◌+◌, ◌<◌, ◌≤◌, Bool, true, List, [], ◌∷◌, Option, Some, None, Ok, length, set, sym, ap, ◌∙◌, arith}
-use Rattle.std.specs.Prelude.{◌==◌, ◌&&◌, replicate}
+use Rattle.std.specs.Prelude.{◌==◌, ◌&&◌}
 use Rattle.phylogeny.proofs.Prelude.{length-append, and_parts, eqb-true, Letter, LogPlace, Before, Within, After, within_if, Reader, reader_with_death, reader_with_newcomer, AreBelow}
 use Rattle.lineage_log.specs.declared.stage.Stage.{Stage}
 
@@ -30,10 +30,6 @@ pub below_with : (n : ℕ) (slots : List (Option ℕ)) (cell id : ℕ) → id �
 below_with n slots cell id next below =
     set_below n (n + 1) slots cell (Some id) (omega arith) below
     (λ x is. let same : id ≡ x = cc in omega arith)
-
--- so many cells in which nobody stands
-abbrev pub nobody : ℕ → List (Option ℕ)
-nobody cells = replicate cells None
 
 -- ---- what is known beside a reader
 

@@ -3,7 +3,7 @@ use Rattle.std.proofs.Common.{◌≡◌, ℕ, suc, ◌+◌, ◌<◌, ◌≤◌, 
 use Rattle.std.specs.Prelude.{count_by, is_some, slice_get}
 use Rattle.phylogeny.proofs.Prelude.{common_steps, drop_more, count_by-le-length, Line, Dweller, living_from, newcomer_parent, parents_in, standing_after, standing_on}
 use Rattle.phylogeny.proofs.CountLemmas.{count_cons}
-use Rattle.phylogeny.proofs.ListLemmas.{drop_is}
+use Rattle.lineage_log.proofs.ResidentWalks.{drop_is}
 
 -- who stands in a cell
 abbrev pub dweller_at : ℕ → ℕ → Dweller

@@ -1,12 +1,12 @@
 -- A walk down the ids: what is counted when it has come to a bound.
 use Rattle.std.proofs.Common.{◌≡◌, ℕ, zero, suc, ◌+◌, ◌-◌, ◌<◌, ◌≤◌, Bool, true, false, cond, eqb, ltb, List, [], ◌∷◌, Option, Some, None, length, get_or, set, max, add-one, refl, sym, ap, ◌∙◌, arith}
 use Rattle.std.specs.Prelude.{count_by, filter, nat_le}
-use Rattle.phylogeny.proofs.Prelude.{AllByRecursion, range_with_len, reduce, option_map_or, option_or, length-set, nat_tests, common_steps, count_by-le-length, length-filter, Shape, Dweller, Pedigree, ancestors_of, branches_of, descends_from, is_branch, is_child, is_common, is_kept_id, kept_ids_of, most_recent_common_ancestor, AreBelow, HaveLowerIds, living_from, parent_at, pedigree_with}
+use Rattle.phylogeny.proofs.Prelude.{AllByRecursion, range_with_len, reduce, option_map_or, option_or, length-set, nat_tests, common_steps, count_by-le-length, length-filter, Shape, Dweller, Pedigree, ancestors_of, branches_of, descends_from, is_branch, is_child, is_common, is_kept_id, kept_ids_of, most_recent_common_ancestor, AreBelow, HaveLowerIds, living_from, parent_at, pedigree_with, all_filtered}
 use Rattle.phylogeny.proofs.AncestorLemmas.{line_head}
 use Rattle.phylogeny.proofs.CountLemmas.{all_counted, any_counted, bit, count_cons, count_handed, count_no, count_same}
 use Rattle.phylogeny.proofs.SlotLemmas.{dweller_at, here}
 use Rattle.phylogeny.proofs.TokenLemmas.{handed, stops, stops-among, stops_here}
-use Rattle.phylogeny.proofs.FilterLemmas.{range_above, filter_all, filter_length, filter_few, greatest_filtered}
+use Rattle.phylogeny.proofs.FilterLemmas.{range_above, filter_length, filter_few, greatest_filtered}
 
 -- one id more is kept: with these many children, and common to all or not
 pub record Keeps (id children : ℕ) (shared : Bool) (old new : Shape) : Type 0 where
@@ -62,7 +62,7 @@ module _ (parents standing : List (Option ℕ)) where
 
   -- no kept id above a bound is below it
   kept_above : (bound : ℕ) → AllByRecursion (λ id. bound ≤ id) (kept_from (bound + 1))
-  kept_above bound = filter_all (λ id. bound ≤ id) (is_kept_id tree)
+  kept_above bound = all_filtered (λ id. bound ≤ id) (is_kept_id tree)
       (range_with_len (bound + 1) (length parents - (bound + 1)))
       (range_above bound (bound + 1) (length parents - (bound + 1)) (omega arith))
 

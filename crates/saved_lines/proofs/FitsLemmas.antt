@@ -5,16 +5,12 @@ use Rattle.saved_lines.proofs.Prelude.{AllByRecursion, and_from, and_parts, le-l
 use Rattle.std.proofs.Math.Nat.{mod-lt}
 use Rattle.genome.specs.Genome.{IsGenome}
 use Rattle.mutations.specs.Change.{is_genome_length}
+use Rattle.mutations.proofs.PointLemmas.{genome-fits}
 
 -- 0 or 1
 flag_fits : (flag : Bool) → flag_number flag ≤ 1
 flag_fits true = omega arith
 flag_fits false = omega arith
-
--- a genome's length passes its test
-length_fits : (ls : List Letter) → IsGenome ls → is_genome_length (length ls) ≡ true
-length_fits ls is = and_from (nat_le 8 (length ls)) (nat_le (length ls) 8192)
-    (le-leb 8 (length ls) is.least) (le-leb (length ls) 8192 is.greatest)
 
 -- letters whose length passes it are a genome
 genome_is : (ls : List Letter) → is_genome_length (length ls) ≡ true → IsGenome ls
@@ -136,7 +132,7 @@ organism_fits o is =
           ▸ up_to (low 1)
           ▸ up_to (low 2)
           ▸ tt,
-      length_fits o.genome is.genome,
+      genome-fits o.genome is.genome,
     )
 
 -- an organism whose fields fit their row, and its sets and inputs are such
@@ -195,7 +191,7 @@ machine_fits m is =
             ▸ up_to (head 3)
             ▸ up_to (flag_fits m.pending)
             ▸ tt,
-        (is.nops, (is.first, (is.second, search length_fits))),
+        (is.nops, (is.first, (is.second, search genome-fits))),
       ),
     )
 

@@ -3,6 +3,8 @@ use Rattle.std.proofs.Common.{◌≡◌, ℕ, zero, suc, ◌<◌, ◌≤◌, ◌
 use Rattle.std.specs.Prelude.{option_and_then}
 use Rattle.saved_lines.proofs.Prelude.{AllByRecursion, some_pair_parts, number_of, OneNumber, Field, Row, Above, IsField, IsRow, number_law, above_lower, some_map, some_then, Range, Front, read_several, several, read_within, AreWithin, within, if_last, whole, ◌◁◌}
 use Rattle.saved_lines.proofs.RangeLemmas.{read_are_within}
+use Rattle.log_lines.proofs.ListLaws.{each_plain}
+use Rattle.genome.proofs.ListLemmas.{all_append}
 
 -- what is written is read again, and what is read was written so, of bytes above c
 pub record IsFront {A : Type 0} (c : ℕ) (f : Front A) : Type 0 where
@@ -27,12 +29,6 @@ front_lower f c d h law =
       takes = law.takes;
       plain = λ a fits. all_lower c d (f.texts a) h (law.plain a fits);
     }
-
--- words of two lists
-above_both : (c : ℕ) (a b : List (List ℕ)) → AllByRecursion (Above c) a
-    → AllByRecursion (Above c) b → AllByRecursion (Above c) (a ++ b)
-above_both c [] b p q = q
-above_both c (word ∷ a) b p q = (p.0, above_both c a b p.1 q)
 
 -- ---- so many words of one field
 
@@ -67,18 +63,12 @@ module _ {A : Type 0} (f : Field A) (c : ℕ) (law : IsField c f) where
       subst (λ (p : List A × List (List ℕ)). Taken (suc count) (word ∷ words) p.0 p.1) second.2
       (rw (a.0, others.0) refl, (ap suc others.1.0, (a.1, others.1.1)))
 
-  -- their bytes
-  several_plain : (items : List A) → AllByRecursion f.Fits items
-      → AllByRecursion (Above c) (map f.text items)
-  several_plain [] fits = tt
-  several_plain (a ∷ items) fits = (law.plain a fits.0, several_plain items fits.1)
-
   -- so many words of a field
   pub several_law : (count : ℕ) → IsFront c (several count f)
   several_law count = record {
     again = λ items words fits. several_again count items words fits.0 fits.1;
     takes = λ words left items is. several_takes count words left items is;
-    plain = λ items fits. several_plain items fits.1;
+    plain = λ items fits. each_plain law items fits.1;
   }
 
 -- ---- a number for each range
@@ -177,6 +167,6 @@ module _ {A : Type 0} (f : Front A) (c : ℕ) (law : IsFront c f) where
           rw (first, others.again p.1 fits.1) refl;
       takes = front_takes;
       plain = λ p fits.
-          above_both c (f.texts p.0) (r.texts p.1) (law.plain p.0 fits.0)
+          all_append (Above c) (f.texts p.0) (r.texts p.1) (law.plain p.0 fits.0)
           (others.plain p.1 fits.1);
     }

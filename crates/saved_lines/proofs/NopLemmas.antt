@@ -1,7 +1,7 @@
 -- Nops that are read letter by letter.
-use Rattle.std.proofs.Common.{◌≡◌, ℕ, ◌+◌, ◌-◌, ◌<◌, ◌⊎◌, true, false, List, [], ◌∷◌, ◌++◌, length, get_or, drop, Option, Some, None, refl, sym, ap, ◌∙◌, arith, length-append, drop-cons, add-one}
+use Rattle.std.proofs.Common.{◌≡◌, ℕ, ◌+◌, ◌-◌, ◌<◌, ◌⊎◌, true, false, List, [], ◌∷◌, ◌++◌, length, get_or, drop, Option, Some, None, refl, sym, ap, ◌∙◌, arith, drop-cons, add-one}
 use Rattle.std.specs.Prelude.{◌&&◌, nat_lt, nat_le, option_and_then, option_map}
-use Rattle.saved_lines.proofs.Prelude.{list_all, and_parts, nat_tests, Letter, letter_of_byte, is_nop, nops_read, each, given, each_length, map_more, are_nops, some_nops}
+use Rattle.saved_lines.proofs.Prelude.{list_all, and_parts, nat_tests, Letter, letter_of_byte, is_nop, each, given, each_length, map_more, are_nops, some_nops}
 
 -- from one to ten nops, or none
 abbrev if_nops : Option (List Letter) → Option (List Letter)
@@ -56,10 +56,3 @@ all_more [] l all is = rw is refl
 all_more (a ∷ front) l all is =
     let parts = and_parts (is_nop a) (list_all is_nop front) all in
     rw (parts.0, all_more front l parts.1 is) refl
-
--- fewer than ten nops and one more
-pub noted : (front : List Letter) (l : Letter) → length front < 10 → is_nop l ≡ true
-    → nops_read front l ≡ front ++ l ∷ []
-noted front l few is =
-    let none : length (front ++ l ∷ []) - 10 ≡ 0 = omega (arith, length-append front (l ∷ [])) in
-    rw (is, none) refl

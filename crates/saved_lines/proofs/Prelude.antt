@@ -1,7 +1,7 @@
 -- What the proofs of this crate cite from outside most often, passed on from one place.
+pub use Rattle.genome.proofs.ListLemmas.{some_map, some_then}
 unfoldable pub use Rattle.instruction_set.specs.Letter.{letter_of_byte}
-pub use Rattle.label_search.specs.Template.{nops_read}
-pub use Rattle.log_lines.proofs.FieldLaws.{Above, IsField, IsRow, above_letters, above_lower, chosen, each_takes, last_law, letters_again, letters_law, letters_taken, not_equal, number_law, row_law, same_bytes, some_map, some_then}
+pub use Rattle.log_lines.proofs.FieldLaws.{Above, IsField, IsRow, above_letters, above_lower, chosen, each_takes, last_law, letters_again, letters_law, letters_taken, not_equal, number_law, row_law, same_bytes}
 pub use Rattle.log_lines.proofs.ListLaws.{each_length}
 pub use Rattle.log_lines.proofs.TextLemmas.{words_text-append, words_text_more}
 pub use Rattle.log_lines.proofs.TimesLemmas.{first_parts, front_more, map_more}

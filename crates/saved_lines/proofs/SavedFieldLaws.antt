@@ -4,8 +4,8 @@ use Rattle.std.specs.Prelude.{negsuc, nat_lt, ◌==◌, FitsSigned, ◌&&◌, na
 use Rattle.saved_lines.proofs.Prelude.{w32, signed_decimal, cases_Bool, eqb-true, and_parts, nat_tests, cond_some, number_of, OneNumber, each, given, Above, IsField, number_law, some_map, some_then, above_letters, each_takes, letters_again, letters_taken, not_equal, same_bytes, bytes_eq, list_all, Letter, byte_of, letter_of_byte, IsTemplate, is_nop, below_zero, read_signed, signed, mark_of, marks, are_nops, some_nops, read_nops, nops, digit_of, nops_text}
 use Rattle.std.proofs.lemmas.List.Elements.{All-nil}
 use Rattle.std.proofs.lemmas.List.Sums.{AllPass-from_list_all, list_all-from_AllPass}
-use Rattle.log_lines.proofs.LetterLemmas.{letter_of_byte-byte_of}
 use Rattle.saved_lines.proofs.TextLemmas.{nops_text-some}
+use Rattle.instruction_set.proofs.LetterLemmas.{found_again}
 
 -- the field writes this word for the number
 abbrev SignedIs : List ℕ → ℤ → Type 0
@@ -132,7 +132,7 @@ no_dash l is = cc
 
 -- no letter is a dash
 dash_else : (l : Letter) → byte_of l ≡ 45 → ⊥
-dash_else l same = no_dash l (ap letter_of_byte (sym same) ∙ letter_of_byte-byte_of l)
+dash_else l same = no_dash l (ap letter_of_byte (sym same) ∙ (found_again l).by_byte)
 
 -- letters are no dash
 not_dash : (l : Letter) (ls : List Letter) → map byte_of (l ∷ ls) ≡ 45 ∷ [] → ⊥

@@ -5,16 +5,6 @@ use Rattle.saved_lines.proofs.Prelude.{Letter, byte_of, CpuImage, words_text, di
 use Rattle.log_lines.specs.Line.{decimals}
 use Rattle.log_lines.proofs.KeptLemmas.{keeps_front}
 
--- numbers, and a text
-pub organism_line : (numbers : List (List ℕ)) (text : List ℕ)
-    → words_text (numbers ++ text ∷ []) ≡ words_text numbers ++ 32 ∷ text
-organism_line numbers text = rw (words_text-append numbers (text ∷ []), append-nil text) refl
-
--- a word, and two lists of words
-pub stacks_text : (word : List ℕ) (first second : List (List ℕ))
-    → words_text (word ∷ (first ++ second)) ≡ (32 ∷ word) ++ (words_text first ++ words_text second)
-stacks_text word first second = rw (words_text-append first second) refl
-
 -- the words of the four texts
 abbrev pub image_texts : CpuImage → List (List ℕ)
 image_texts image =
@@ -55,11 +45,6 @@ pub ruleset nops_spell = (keeps_front, nops_text-some)
 pub ruleset words_grow = (keeps_front, words_text_more)
 
 -- ---- lines made step by step
-
--- a mark, words, and a newline
-pub line_made : (old words : List ℕ) (mark : ℕ)
-    → ((old ++ mark ∷ []) ++ words) ++ 10 ∷ [] ≡ old ++ ((mark ∷ words) ++ 10 ∷ [])
-line_made old words mark = simp append_assoc
 
 -- numbers and a text
 pub organism_made : (old : List ℕ) (numbers : List (List ℕ)) (text : List ℕ)

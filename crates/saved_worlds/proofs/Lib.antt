@@ -1,5 +1,4 @@
 pub mod Prelude
-pub mod Updates
 pub mod Alike
 pub mod Quiet
 pub mod Resumes

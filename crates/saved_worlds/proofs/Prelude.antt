@@ -1,5 +1,6 @@
 -- What the proofs of this crate cite from outside most often, passed on from one place.
-pub use Rattle.log_lines.proofs.FieldLaws.{some_then, split_first}
+pub use Rattle.genome.proofs.ListLemmas.{some_then}
+pub use Rattle.log_lines.proofs.FieldLaws.{split_first}
 pub use Rattle.mutations.specs.Rates.{RateNumbers}
 pub use Rattle.mutations.specs.RecordForm.{IsWithin}
 pub use Rattle.organism.specs.OrganismState.{OrganismState}
@@ -30,8 +31,8 @@ pub use Rattle.world_rules.specs.LogText.{birth_line, birth_lines, death_line, d
 unfoldable pub use Rattle.world_rules.specs.LogText.{lines_of_lives, log_text, update_lines, update_text}
 pub use Rattle.world_rules.specs.Settings.{rates_after, rates_after_what, with_rate}
 unfoldable pub use Rattle.world_rules.specs.Settings.{rates_at, settings_at}
-pub use Rattle.world_rules.specs.Update.{Delivery, after_lives, after_what, birth_link, births_of, child_of_birth, deaths_of, lives_after, turns_of, world_of}
-unfoldable pub use Rattle.world_rules.specs.Update.{after_births, after_burials, after_event, after_events, events_at, last_scene, next_scene, next_world, placings_of, scene_of_lives, with_newborn}
-pub use Rattle.world_rules.specs.World.{Occupant, Scene, World, cells_from, id_at, next_id, with_deaths}
-unfoldable pub use Rattle.world_rules.specs.World.{first_world, with_death, with_newcomer}
+pub use Rattle.world_rules.specs.Update.{Delivery, after_lives, birth_link, births_of, child_of_birth, deaths_of, lives_after, turns_of, world_of}
+unfoldable pub use Rattle.world_rules.specs.Update.{after_births, after_burials, after_events, events_at, last_scene, next_scene, next_world, placings_of, scene_of_lives, with_newborn}
+pub use Rattle.world_rules.specs.World.{Occupant, Scene, World, id_at, next_id, with_deaths}
+unfoldable pub use Rattle.world_rules.specs.World.{with_death, with_newcomer}
 unfoldable pub use Rattle.world_rules.specs.WorldRun.{world_after}

@@ -31,7 +31,7 @@ happens_in_time config =
     (recursion_from_All _ (event_values config.event) config.event_bounds.fit)
 
 -- the same of each item
-map_same : {X Y : Type 0} (f g : X → Y) → ((x : X) → f x ≡ g x) → (xs : List X)
+pub map_same : {X Y : Type 0} (f g : X → Y) → ((x : X) → f x ≡ g x) → (xs : List X)
     → map f xs ≡ map g xs
 map_same f g same [] = refl
 map_same f g same (x ∷ xs) = rw (same x, map_same f g same xs) refl

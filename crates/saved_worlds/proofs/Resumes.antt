@@ -2,9 +2,9 @@
 use Rattle.std.proofs.Common.{◌≡◌, ℕ, zero, suc, ◌+◌, ◌<◌, ◌≤◌, List, [], ◌++◌, length, refl, sym, ap, ◌∙◌, arith, append_assoc, add-zero, append-nil}
 use Rattle.saved_worlds.proofs.Prelude.{length-replicate, ConfigValues, World, Scene, rates_at, CellLife, after_lives, deaths_of, after_burials, births_of, after_births, after_events, events_at, last_scene, scene_of_lives, world_of, lives_after, next_scene, next_world, world_after, event_lines, lines_of_lives, update_lines, head_text, update_text, updates_text, end_text, log_text, head_at, state_of_world, state_of, config_of_head, forgotten, world_of_state, with_world, next_state, saved_state_after, next_text, later_texts, continued_text}
 use Rattle.lineage_log.specs.LogGrammar.{lines_text}
-use Rattle.saved_worlds.proofs.Updates.{update_of}
 use Rattle.saved_worlds.proofs.Quiet.{HappensInTime, no_events, rates_stay, lives_same}
 use Rattle.saved_worlds.proofs.Alike.{Alike, death_lines_same, burials_alike, births_alike, birth_lines_same, stats_same}
+use Rattle.world_rules.proofs.Updates.{update_of}
 
 module _ (config : ConfigValues) (over : HappensInTime config) (w : World)
     (ended : config.updates ≤ w.update) where

@@ -7,7 +7,7 @@ use Rattle.instruction_set.specs.declared.letter.Letter.{Letter}
 use Rattle.instruction_set.specs.declared.letter.Letter.TheVariants.{NopA}
 use Rattle.world_laws.specs.Bounds.{IsConfig}
 use Rattle.saved_worlds.proofs.Resumes.{next_state_is}
-use Rattle.saved_worlds.proofs.Updates.{next_update}
+use Rattle.world_rules.proofs.Updates.{next_update}
 
 -- a state with a next id of at most this and organisms younger than this
 pub record Stands (ids ages : ℕ) (state : SavedState) : Type 0 where
@@ -173,9 +173,10 @@ module _ (kept : RangesAreKept) (ids ages : ℕ) (state : SavedState) (is : Stan
         subst (Stands (ids + 65537000) (ages + 65536000)) (sym next) (stands_made early)
 
 -- a state's update is one more in the next
-update_next : (state : SavedState) → (next_state state).head.update ≡ state.head.update + 1
+pub next_state_update : (state : SavedState)
+    → (next_state state).head.update ≡ state.head.update + 1
 unfolding next_state
-update_next state = next_update (config_of_head state.head) (world_of_state state)
+next_state_update state = next_update (config_of_head state.head) (world_of_state state)
 
 -- and as many more after so many updates
 pub update_after : (state : SavedState) (more : ℕ)
@@ -183,7 +184,7 @@ pub update_after : (state : SavedState) (more : ℕ)
 unfolding saved_state_after
 update_after state zero = omega arith
 update_after state (suc more) =
-    omega (arith, update_next (saved_state_after state more), update_after state more)
+    omega (arith, next_state_update (saved_state_after state more), update_after state more)
 
 module _ (kept : RangesAreKept) where
   -- after so many updates

@@ -4,6 +4,7 @@ use Rattle.world_config.proofs.Prelude.{AllPass, IsNonDecreasingBy, bytes_eq, an
 use Rattle.std.proofs.lemmas.Option.{cond_some}
 use Rattle.std.proofs.lemmas.List.Elements.{All-cons, All-nil}
 use Rattle.genome.specs.declared.stop.GenomeStop.{GenomeStop}
+use Rattle.genome.proofs.ListLemmas.{some_map, some_then}
 
 -- what is there under a condition is there
 only_if : {A : Type 0} (test : Bool) (o : Option A) (y : A) → cond test o None ≡ Some y → o ≡ Some y
@@ -16,18 +17,6 @@ both-some : {A B C : Type 0} (make : A → B → C) (a : Option A) (b : Option B
 both-some make (Some x) (Some y) c h = (x, y, refl, refl, cc)
 both-some make (Some x) None c h = absurd (cc)
 both-some make None b c h = absurd (cc)
-
--- what followed from a value, with the value
-and_then-some : {A B : Type 0} (f : A → Option B) (a : Option A) (b : B)
-    → option_and_then f a ≡ Some b → (x : A) × (a ≡ Some x) × (f x ≡ Some b)
-and_then-some f (Some x) b h = (x, refl, h)
-and_then-some f None b h = absurd (cc)
-
--- what a value became, with the value
-map-some : {A B : Type 0} (f : A → B) (a : Option A) (b : B) → option_map f a ≡ Some b
-    → (x : A) × (a ≡ Some x) × (f x ≡ b)
-map-some f (Some x) b h = (x, refl, cc)
-map-some f None b h = absurd (cc)
 
 -- an integer that was read is within its bounds
 within_integer : (least greatest : ℕ) (z : ℤ) (n : ℕ)
@@ -88,10 +77,10 @@ clear_of-fits frame ms what h =
     λ last. option_map (λ first. clear first last)
     (number_from 0 last (get_member (codes "first") ms)) in
     let (last, of_last, rest) =
-    and_then-some cleared number what
+    some_then cleared number what
     (only_if _ (option_and_then cleared number) what h) in
     let (first, of_first, made) =
-    map-some (λ (f : ℕ). clear f last) (number_from 0 last (get_member (codes "first") ms)) what
+    some_map (λ (f : ℕ). clear f last) (number_from 0 last (get_member (codes "first") ms)) what
     rest in
     let low : (nat_le 0 first && nat_le first last) ≡ true =
     within 0 last (get_member (codes "first") ms) first of_first in
@@ -150,7 +139,7 @@ table_fits frame least ms event h =
     let named : Option (List ℕ) = option_and_then as_str (get_member (codes "kind") ms) in
     let (update, what, of_update, of_what, made) =
     both-some make number (option_and_then (what_of frame ms) named) event h in
-    let (kind, of_kind, does) = and_then-some (what_of frame ms) named what of_what in
+    let (kind, of_kind, does) = some_then (what_of frame ms) named what of_what in
     let (low, high) = and_parts (nat_le least update) (nat_le update frame.updates)
     (within least frame.updates (get_member (codes "update") ms) update of_update) in
     rw (← made) (record {

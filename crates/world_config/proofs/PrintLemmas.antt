@@ -2,25 +2,19 @@
 use Rattle.std.proofs.Common.{◌≡◌, ℕ, ◌+◌, ◌-◌, ◌<◌, ◌≤◌, true, false, ◌&&◌, nat_le, nat_eq, List, [], ◌∷◌, length, map, drop, get_or, Option, Some, None, Ok, pos, refl, ap, arith, le-leb, lit≤, zero, suc, le-ltb, leb-true, ne_eqb, ◌≢◌, add-one, codes, option_and_then}
 use Rattle.std.specs.Prelude.{filter_map, is_none}
 use Rattle.world_config.proofs.Prelude.{AllPass, position_from, pointwise, IsNonDecreasingBy, and_parts, as_str, get_member, string, integer, table, depth, items_depth, Letter, byte_of, letter_of_byte, genome_of, before_line_end, letters_text_of, spelled_by_letters, RateName, Frame, AreEvents, EventValue, WhatValue, inject, clear, rate, event_fits, what_fits, name_of_rate, rate_named, both, event_of, events_from, events_of, genome_from, more_events, number_from, what_of, item_count, event_members, items_for}
-use Rattle.instruction_set.specs.declared.letter.Letter.TheVariants.{NopA}
+use Rattle.instruction_set.proofs.LetterLemmas.{found_again}
 use Rattle.mutations.specs.declared.rate_name.RateName.TheVariants.{Copy}
-
--- the letter of a letter's byte
-found_by_byte : (l : Letter) → letter_of_byte (byte_of l) ≡ Some l
-unfolding letter_of_byte
-found_by_byte NopA = refl
-found_by_byte _ = refl
 
 -- each byte of a text by letters is a letter's
 no_bad_byte : (ls : List Letter) (i : ℕ)
     → position_from (λ byte. is_none (letter_of_byte byte)) i (map byte_of ls) ≡ None
 no_bad_byte [] i = refl
-no_bad_byte (l ∷ ls) i = rw (found_by_byte l, no_bad_byte ls (i + 1)) refl
+no_bad_byte (l ∷ ls) i = rw ((found_again l).by_byte, no_bad_byte ls (i + 1)) refl
 
 -- the letters of a text by letters
 all_letters : (ls : List Letter) → filter_map letter_of_byte (map byte_of ls) ≡ ls
 all_letters [] = refl
-all_letters (l ∷ ls) = rw (found_by_byte l, all_letters ls) refl
+all_letters (l ∷ ls) = rw ((found_again l).by_byte, all_letters ls) refl
 
 -- the byte of a letter is no line end
 not_line_end : (l : Letter) → nat_eq 10 (byte_of l) ≡ false

@@ -1,9 +1,8 @@
 -- Organisms beside their ids, as one cell changes.
 use Rattle.std.proofs.Common.{◌≡◌, ◌∙◌, ◌<◌, refl, sym, ap, ℕ, zero, suc, List, [], ◌∷◌, length, map, set, get_or, replicate, Option, Some, None, arith}
-use Rattle.world_core.proofs.Prelude.{get_or_read, length-map, length-replicate, length-set, map-set, standing_in, standing_of, Standing, organism_of_image, OrganismState, Resident, values_in, image_of, merit_in, with_id, organism_in, Occupant, AreKeptBeside, occupants_of, merit_or_zero, IsResidentIn}
+use Rattle.world_core.proofs.Prelude.{get_or_read, length-map, length-replicate, length-set, map-set, standing_in, standing_of, Standing, organism_of_image, OrganismState, Resident, values_in, image_of, merit_in, with_id, organism_in, Occupant, AreKeptBeside, occupants_of, merit_or_zero, IsResidentIn, map-replicate}
 use Rattle.std.proofs.Math.ListN.{get_or-map}
 use Rattle.world_core.specs.declared.cell_table.CellTable.TheInside.{Inside}
-use Rattle.world_core.proofs.SumLemmas.{map-replicate}
 
 -- there are as many cells as organisms and gaps
 pub occupants_of-length : (os : List (Option OrganismState)) (ids : List ℕ) → length ids ≡ length os

@@ -1,8 +1,8 @@
 -- The genotypes that are counted, as one cell changes.
 use Rattle.std.proofs.Common.{◌≡◌, ◌∙◌, refl, sym, ap, ℕ, ◌+◌, ◌<◌, ◌≢◌, ◌⊎◌, Bool, true, false, cond, List, length, set, get_or, get_or-set_same, get_or-set_other, Option, Some, None, is_some, arith, inl, inr}
 use Rattle.std.specs.Prelude.{nat_eq, nat_lt, slice_get}
-use Rattle.world_core.proofs.Prelude.{count_by, cases_eq, eqb-false, eqb-true, false_from_ne_true, ltb-false, get_or-set_at, length-set, sum_by-set, get_or-le-sum_by, GenotypeCount, genotype_at, living_of, count_under, lowered, genotype_with_one, genotype_without_one, Letter, same_letters, AreCountedIn, AreDifferent, is_genome}
-use Rattle.world_core.proofs.StandingLemmas.{OneList, apart, cells_of, count_in, genome-under, is_itself}
+use Rattle.world_core.proofs.Prelude.{count_by, cases_eq, eqb-false, eqb-true, false_from_ne_true, ltb-false, get_or-set_at, length-set, sum_by-set, get_or-le-sum_by, GenotypeCount, genotype_at, living_of, count_under, lowered, genotype_with_one, genotype_without_one, Letter, same_letters, AreCountedIn, AreDifferent, is_genome, OneList}
+use Rattle.world_core.proofs.StandingLemmas.{apart, cells_of, count_in, genome-under, is_itself}
 use Rattle.world_core.proofs.SumLemmas.{one}
 
 -- what stands in a cell that was changed

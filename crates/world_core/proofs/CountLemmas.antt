@@ -1,8 +1,7 @@
 -- The counts after lives, one cell after another.
 use Rattle.std.proofs.Common.{◌≡◌, ◌∙◌, refl, sym, ap, ℕ, ◌+◌, ◌<◌, ◌≤◌, ◌^◌, List, [], ◌∷◌, ◌++◌, append-nil, append_assoc, length, set, get_or, take, drop, Option, Some, None, arith, inl, inr}
-use Rattle.world_core.proofs.Prelude.{map-set_same, drop_all, drop_more, get_or_at, length-append, length-drop, length-take-le, set_at, take_all, take_more, standing_in, Counts, Letter, has_task, OrganismState, merit_in, with_id, Occupant, CanCountChange, CountsChange, IsKeptOf, is_credited, occupant_genome, occupant_genomes}
+use Rattle.world_core.proofs.Prelude.{map-set_same, drop_all, drop_more, get_or_at, length-append, length-drop, length-take-le, set_at, take_all, take_more, standing_in, Counts, Letter, has_task, OrganismState, merit_in, with_id, Occupant, CanCountChange, CountsChange, IsKeptOf, is_credited, occupant_genome, occupant_genomes, OneList}
 use Rattle.world_core.proofs.KeptOfLemmas.{IsKeptOf-empty, IsKeptOf-lived, IsKeptOf-removed, can-remove}
-use Rattle.world_core.proofs.StandingLemmas.{OneList}
 use Rattle.world_core.proofs.SumLemmas.{AreSummedIn-renewed, AreSummedIn-same, can-renew}
 
 -- what a life leaves of who stood in a cell: the same genome and a merit that fits, or nobody

@@ -1,8 +1,7 @@
 -- A whole seat that interns more genomes.
 use Rattle.std.proofs.Common.{◌≡◌, ◌∙◌, refl, sym, ap, ℕ, zero, suc, ◌+◌, ◌<◌, ◌≤◌, cond, List, [], ◌∷◌, append-nil, fold, get_or, length, map, Some, arith, inl, inr}
 use Rattle.std.specs.Prelude.{nat_lt, slice_get}
-use Rattle.world_core.proofs.Prelude.{All, Contains, cases_lt, nat_tests, length-append, All-cons, All-head, All-nil, All-tail, Contains-append_cases, Contains-get_or, slice_get-get_or, slice_get_within, genome_in, Delivered, Letter, Entry, genotypes_of, with_genome, NumbersAgree, SeatValue, HasNumber, TakesIn, AreDifferent}
-use Rattle.world_core.proofs.StandingLemmas.{prefix-stays}
+use Rattle.world_core.proofs.Prelude.{All, Contains, cases_lt, nat_tests, length-append, All-cons, All-head, All-nil, All-tail, Contains-append_cases, Contains-get_or, slice_get-get_or, slice_get_within, genome_in, Delivered, Letter, Entry, genotypes_of, with_genome, NumbersAgree, SeatValue, HasNumber, TakesIn, AreDifferent, slice_get-begins}
 
 -- no two numbers have one genome
 pub genotypes-different : NumbersAgree → (history : List Entry)
@@ -90,7 +89,8 @@ len-taken old new births takes different =
                 let early : slice_get old has.0 ≡ Some genome =
                 slice_get-get_or old has.0 genome has.1 ∙ ap Some has.2 in
                 let same : has.0 ≡ most =
-                different has.0 most genome (prefix-stays old new has.0 genome takes.stays early)
+                different has.0 most genome
+                (slice_get-begins old new has.0 genome takes.stays early)
                 there in
                 omega (arith, same, has.1, len-grows (length old) births)
             | inr has ↦

@@ -1,8 +1,7 @@
 -- A bank that grows with the list of all organisms.
 use Rattle.std.proofs.Common.{◌≡◌, refl, List, [], ◌∷◌, ◌++◌, append-nil, map}
-use Rattle.world_core.proofs.Prelude.{map_push, genome_in, Delivered, HasEachOnce, with_genome, Letter, Link, OrganismState, Scene, with_newcomer, TakesIn, genomes_ever, Grows}
-use Rattle.world_core.proofs.JoinLemmas.{IsPrefix-trans, each-through}
-use Rattle.world_core.proofs.StandingLemmas.{with_genome-prefix}
+use Rattle.world_core.proofs.Prelude.{map_push, genome_in, Delivered, HasEachOnce, with_genome, Letter, Link, OrganismState, Scene, with_newcomer, TakesIn, genomes_ever, Grows, IsPrefix-trans, with_genome-begins}
+use Rattle.world_core.proofs.JoinLemmas.{each-through}
 
 -- a newcomer stands behind all others
 pub newcomer-added : (scene : Scene) (link : Link) (organism : OrganismState)
@@ -38,7 +37,7 @@ pub Grows_founder : OneMore
     → new ≡ with_genome old genome → after ≡ before ++ link ∷ [] → link.genome ≡ genome
     → Grows old new before after
 Grows_founder more old new before after link genome interned came same = record {
-  stays = rw interned (with_genome-prefix old genome);
+  stays = rw interned (with_genome-begins old genome);
   each = λ has. rw (interned, came, map_push (λ (l : Link). l.genome) before link, same)
       (more old (genomes_ever before) genome has);
 }

@@ -1,7 +1,7 @@
 -- Jobs that part the cells, and what comes of them as one.
 use Rattle.std.proofs.Common.{◌≡◌, ◌∙◌, refl, sym, ap, ℕ, suc, ◌+◌, ◌≤◌, List, [], ◌∷◌, ◌++◌, append_assoc, length, map, Option, arith, inl, inr}
 use Rattle.std.specs.Prelude.{◌↔◌}
-use Rattle.world_core.proofs.Prelude.{All, Contains, flat_map, sum_by, IsPermutation, common_steps, map-append, All-cons, All-nil, Contains-append_cases, Contains-append_left, Contains-append_right, filter_map-append, IsPermutation-refl, IsPermutation-sym, IsPrefix, RoundNumbers, births_from, deaths_from, left_in, part_from, shard_lives_of, standing_in, AreFinished, IsFinished, IsNumbered, birth_of, call_for, genome_in, part_of, Delivered, Finished, Job, HasEachOnce, calls_under, genomes_of, genotypes_of, SeatValue, own_calls_of, Entry, Letter, OrganismState, OrganismLife, TakesIn, IsJoined, LieSideBySide, PartCells, ShareSeat, seat_from}
+use Rattle.world_core.proofs.Prelude.{All, Contains, flat_map, sum_by, IsPermutation, common_steps, map-append, All-cons, All-nil, Contains-append_cases, Contains-append_left, Contains-append_right, filter_map-append, IsPermutation-refl, IsPermutation-sym, IsPrefix, RoundNumbers, births_from, deaths_from, left_in, part_from, shard_lives_of, standing_in, AreFinished, IsFinished, IsNumbered, birth_of, call_for, genome_in, part_of, Delivered, Finished, Job, HasEachOnce, calls_under, genomes_of, genotypes_of, SeatValue, own_calls_of, Entry, Letter, OrganismState, OrganismLife, TakesIn, IsJoined, LieSideBySide, PartCells, ShareSeat, seat_from, IsPrefix-trans}
 
 -- what the crate of shards says of parts that lie side by side, in its own words
 abbrev pub PartsLaws : Type 0
@@ -167,12 +167,6 @@ pub record EndsAs (round : RoundNumbers) (seat : SeatValue) (cells : List (Optio
   pub own : IsPermutation calls (own_calls_of whole.seat)
   pub genomes : genomes_of calls ≡ genomes_of (own_calls_of seat) ++ map genome_in whole.births
   pub numbers : All (IsNumbered whole.seat.seen) whole.births
-
--- a prefix of a prefix
-pub IsPrefix-trans : {X : Type 0} (xs ys zs : List X) → IsPrefix xs ys → IsPrefix ys zs
-    → IsPrefix xs zs
-IsPrefix-trans xs ys zs a b =
-    (a.0 ++ b.0, sym (append_assoc xs a.0 b.0) ∙ (ap (λ l. l ++ b.0) a.1 ∙ b.1))
 
 -- so it is where they are joined in their order
 pub ends-as : PartsLaws → (round : RoundNumbers) (seat : SeatValue)

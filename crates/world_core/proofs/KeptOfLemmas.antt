@@ -1,11 +1,11 @@
 -- What is kept of who stands in the cells, as one of them changes.
 use Rattle.std.proofs.Common.{◌≡◌, ◌∙◌, sym, ap, Result, Ok, Err, OnOk, ℕ, ◌<◌, ◌≤◌, ◌^◌, List, [], length, set, get_or, Option, Some, None, is_some, replicate, arith}
-use Rattle.world_core.proofs.Prelude.{get_or_read, map-set, length-map, set-get_or, count_by-le-length, CanAdd, CanRemove, HasOneFewer, HasOneMore, Counts, Letter, Occupant, IsPrefix, with_genome, IsKeptOf, AreDifferent, AreSummedIn, occupant_genome, occupant_genomes}
+use Rattle.world_core.proofs.Prelude.{get_or_read, map-set, length-map, set-get_or, count_by-le-length, CanAdd, CanRemove, HasOneFewer, HasOneMore, Counts, Letter, Occupant, IsPrefix, with_genome, IsKeptOf, AreDifferent, AreSummedIn, occupant_genome, occupant_genomes, map-replicate, OneList, with_genome-begins}
 use Rattle.std.proofs.Math.ListN.{get_or-map}
 use Rattle.std.specs.Prelude.{OnErr, slice_get}
 use Rattle.world_core.proofs.ChangeLemmas.{AreCountedIn-put, AreCountedIn-removed}
-use Rattle.world_core.proofs.StandingLemmas.{OneList, AreCountedIn-more, AreCountedIn-none, some-counted, with_genome-prefix}
-use Rattle.world_core.proofs.SumLemmas.{AreSummedIn-none, AreSummedIn-put, AreSummedIn-removed, credited-counted, map-replicate, merit-counted, merit-room, tasks-room}
+use Rattle.world_core.proofs.StandingLemmas.{AreCountedIn-more, AreCountedIn-none, some-counted}
+use Rattle.world_core.proofs.SumLemmas.{AreSummedIn-none, AreSummedIn-put, AreSummedIn-removed, credited-counted, merit-counted, merit-room, tasks-room}
 
 -- nobody stands anywhere
 pub IsKeptOf-none : (n : ℕ) (cells : List (Option Occupant)) (genomes : List (List Letter))
@@ -139,7 +139,7 @@ pub IsKeptOf-interned : {T E : Type 0} → OneList
     → AreDifferent after → IsKeptOf cells before keys counts → IsKeptOf cells after keys counts
 IsKeptOf-interned one_list cells before after keys counts new (Ok value) more same different kept =
     IsKeptOf-more one_list cells before after keys counts
-    (rw more (with_genome-prefix before new)) different kept
+    (rw more (with_genome-begins before new)) different kept
 IsKeptOf-interned one_list cells before after keys counts new (Err error) more same different kept =
     rw same kept
 

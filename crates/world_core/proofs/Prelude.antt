@@ -10,6 +10,8 @@ pub use Rattle.cell_shards.specs.declared.standing.Standing.{Standing}
 pub use Rattle.census.specs.Changes.{AreCounted, CanAdd, HasOneMore, genome_under, genotype_with_one, genotype_without_one, lowered, tasks_with, tasks_without}
 pub use Rattle.census.specs.Counts.{AreGenotypes, HaveSameMembers}
 pub use Rattle.genome.specs.Genome.{different_of}
+pub use Rattle.genotype_bank.proofs.DifferentLemmas.{OneList, same_letters-equivalence, slice_get-begins, with_genome-begins}
+pub use Rattle.genotype_bank.proofs.HistoryLemmas.{IsPrefix-trans}
 pub use Rattle.genotype_bank.specs.BankHistory.{NumbersAgree, calls_under, genomes_of, genotypes_of}
 pub use Rattle.genotype_bank.specs.declared.view.Entry.{Entry}
 pub use Rattle.instruction_set.specs.Letter.{same_letters}
@@ -26,6 +28,7 @@ pub use Rattle.random_streams.specs.RandomStream.{after, draw}
 pub use Rattle.random_streams.specs.declared.purpose.Purpose.TheVariants.{Run}
 pub use Rattle.saved_lines.specs.SavedValues.{HeadValues}
 pub use Rattle.saved_lines.specs.declared.resident.Resident.{Resident}
+pub use Rattle.saved_worlds.proofs.Quiet.{map_same}
 pub use Rattle.saved_worlds.specs.SavedGrammar.{Placed}
 unfoldable pub use Rattle.saved_worlds.specs.SavedState.{state_of}
 pub use Rattle.std.proofs.Math.ListN.{set}
@@ -45,7 +48,7 @@ pub use Rattle.std.proofs.lemmas.Option.{slice_get-get_or, slice_get_within}
 pub use Rattle.std.proofs.lemmas.Result.{IfOk-at_ok, IfOk-weaker, on_ok_weaker}
 pub use Rattle.std.proofs.lemmas.Slice.Zip.{firsts-zip, get_or-zip, length-zip}
 pub use Rattle.std.specs.Bool.{Decides}
-pub use Rattle.std.specs.List.{AllPass, Contains, IsDistinct, count_by, filter_map, fold, list_any, range_with_len, scan}
+pub use Rattle.std.specs.List.{AllPass, Contains, IsDistinct, count_by, filter_map, list_any, range_with_len, scan}
 pub use Rattle.std.specs.Option.{option_map, unwrap_or}
 pub use Rattle.std.specs.Vec.Iter.{into_iter_items, into_iter_len, into_iter_steps}
 pub use Rattle.virtual_cpu.specs.View.{image_of, machine_of_image}
@@ -61,6 +64,7 @@ pub use Rattle.world_core.specs.Scenes.{Grows, HasNumber, IsResidentIn, IsState,
 pub use Rattle.world_core.specs.Sharding.{FollowShares, IsJoined, LieSideBySide, PartCells, ShareSeat, load_before, load_of, seat_from, seat_without, share_before}
 pub use Rattle.world_core.specs.declared.ids.Newborns.{Newborns}
 pub use Rattle.world_core.specs.declared.ids.Departure.{Departure}
+pub use Rattle.world_laws.proofs.ListLemmas.{map-replicate}
 pub use Rattle.world_laws.specs.Turnover.{IsStanding}
 pub use Rattle.world_rules.specs.Lives.{life_at, no_life, slice_at}
 unfoldable pub use Rattle.world_rules.specs.Lives.{life_of, lives_of, slices_at}

@@ -1,12 +1,8 @@
 -- The genotypes that are counted, beside the genomes that stand and those that have a number.
-use Rattle.std.proofs.Common.{◌≡◌, ◌∙◌, refl, sym, ap, subst, ℕ, zero, suc, ◌<◌, true, List, [], ◌∷◌, ◌++◌, append-nil, length, get_or, Option, Some, None, is_some, replicate, arith, rules, inl, inr}
+use Rattle.std.proofs.Common.{◌≡◌, ◌∙◌, refl, sym, ap, ℕ, zero, suc, ◌<◌, true, List, [], ◌∷◌, length, get_or, Option, Some, None, is_some, replicate, arith, rules, inl, inr}
 use Rattle.std.specs.Prelude.{IsSome, slice_get}
-use Rattle.world_core.proofs.Prelude.{Decides, IsPrefix, count_by, list_any, option_map, unwrap_or, cases_Bool, cases_lt, length-replicate, sum_by-replicate, sum_by-cons, get_or-le-sum_by, GenotypeCount, genotype_at, count_under, genome_under, Letter, same_letters, with_genome, AreCountedIn, AreDifferent, is_genome}
+use Rattle.world_core.proofs.Prelude.{IsPrefix, count_by, option_map, unwrap_or, cases_Bool, cases_lt, length-replicate, sum_by-replicate, sum_by-cons, get_or-le-sum_by, GenotypeCount, genotype_at, count_under, genome_under, Letter, same_letters, AreCountedIn, AreDifferent, is_genome, OneList, slice_get-begins}
 use Rattle.world_core.proofs.SumLemmas.{one}
-
--- the test of two lists of letters tells which are one list
-abbrev pub OneList : Type 0
-OneList = (one other : List Letter) → Decides (same_letters one other) (one ≡ other)
 
 -- the cells in which a genome stands
 abbrev pub cells_of : List (Option (List Letter)) → List Letter → ℕ
@@ -44,27 +40,6 @@ AreCountedIn-none n keys long = record {
   living =
       omega (arith, sum_by-replicate (λ (slot : Option (List Letter)). one (is_some slot)) n None);
 }
-
--- a genome keeps its number where others come behind
-pub prefix-stays : (early late : List (List Letter)) (number : ℕ) (genome : List Letter)
-    → IsPrefix early late → slice_get early number ≡ Some genome
-    → slice_get late number ≡ Some genome
-prefix-stays early late number genome prefix is =
-    subst (λ genomes. slice_get genomes number ≡ Some genome) prefix.1
-    (ahead early prefix.0 number is) where
-      ahead : (xs ys : List (List Letter)) (k : ℕ) → slice_get xs k ≡ Some genome
-          → slice_get (xs ++ ys) k ≡ Some genome
-      ahead [] ys k is = cc
-      ahead (x ∷ xs) ys zero is = is
-      ahead (x ∷ xs) ys (suc k) is = ahead xs ys k is
-
--- the genomes with one more begin with them
-pub with_genome-prefix : (genomes : List (List Letter)) (new : List Letter)
-    → IsPrefix genomes (with_genome genomes new)
-with_genome-prefix genomes new = elim (cases_Bool (list_any (same_letters new) genomes)) [
-  | inl known ↦ rw known ([], append-nil genomes)
-  | inr fresh ↦ rw fresh (new ∷ [], refl)
-]
 
 module _ (one_list : OneList) where
   -- a genome is itself
@@ -112,7 +87,7 @@ module _ (one_list : OneList) where
               let at = some_cell genome standing some in
               let there = are.keyed at.0 genome at.1 in
               let same = different (get_or keys at.0 0) number genome
-              (prefix-stays genomes later _ genome prefix there) is in
+              (slice_get-begins genomes later _ genome prefix there) is in
               absurd (apart _ genome none (ap (slice_get genomes) (sym same) ∙ there))
           | inr nowhere ↦ omega arith
         ]
@@ -125,9 +100,9 @@ module _ (one_list : OneList) where
       → AreCountedIn standing later keys genotypes
   AreCountedIn-more standing genomes keys genotypes later prefix different are = record {
     size = are.size;
-    keyed = λ cell genome is. prefix-stays genomes later (get_or keys cell 0) genome prefix
+    keyed = λ cell genome is. slice_get-begins genomes later (get_or keys cell 0) genome prefix
         (are.keyed cell genome is);
-    named = λ number genotype is. prefix-stays genomes later number genotype.genome prefix
+    named = λ number genotype is. slice_get-begins genomes later number genotype.genome prefix
         (are.named number genotype is);
     counted = λ number genome is. counted number genome is (slice_get genomes number) refl;
     living = are.living;
@@ -140,7 +115,7 @@ module _ (one_list : OneList) where
           none-counted standing genomes keys genotypes later genome number prefix different are none
           is
       counted number genome is (Some old) some =
-          let kept = prefix-stays genomes later number old prefix some in
+          let kept = slice_get-begins genomes later number old prefix some in
           let same : old ≡ genome = cc in
           are.counted number old some ∙ ap (cells_of standing) same
 

@@ -1,14 +1,14 @@
 -- What is kept of who stands in the cells shows what is counted of them anew.
 use Rattle.std.proofs.Common.{◌≡◌, ◌∙◌, refl, sym, ap, subst, ℕ, zero, suc, ◌<◌, List, [], ◌∷◌, length, map, get_or, Option, Some, None, is_some, arith, inl, inr}
 use Rattle.std.specs.Prelude.{nat_eq}
-use Rattle.world_core.proofs.Prelude.{Decides, Contains, IsDistinct, list_any, sum_by, count_by, cases_Bool, eqb-false, eqb-true, false_from_ne_true, Decides-like, same_from_decides, length-map, get_or-map, Contains-get_or, sum_by-cons, get_or-le-sum_by, AreGenotypes, GenotypeCount, genotype_at, HaveSameMembers, different_of, HasEachOnce, Letter, same_letters, Task, has_task, OrganismState, Occupant, ids_of, merit_in, counted_in, credited_with, genomes_of_cells, organisms_in, AreCountedIn, occupant_genomes}
-use Rattle.std.specs.Cmp.{IsEquivalence, nat_eq_equiv}
+use Rattle.world_core.proofs.Prelude.{Decides, Contains, IsDistinct, list_any, sum_by, count_by, cases_Bool, eqb-false, eqb-true, false_from_ne_true, Decides-like, same_from_decides, length-map, get_or-map, Contains-get_or, sum_by-cons, get_or-le-sum_by, AreGenotypes, GenotypeCount, genotype_at, HaveSameMembers, different_of, HasEachOnce, Letter, same_letters, Task, has_task, OrganismState, Occupant, ids_of, merit_in, counted_in, credited_with, genomes_of_cells, organisms_in, AreCountedIn, occupant_genomes, OneList, same_letters-equivalence}
+use Rattle.std.specs.Cmp.{nat_eq_equiv}
 use Rattle.std.specs.Map.{keys_of, values_of}
 use Rattle.std.proofs.lemmas.Map.Keys.{IsDistinct-from_apart, apart_from_distinct}
 use Rattle.std.proofs.lemmas.Map.Made.{Contains-from_values_of, Contains-values_of, length-from_same_keys}
 use Rattle.std.proofs.lemmas.Map.Views.{Contains-from_lookup, lookup-from_Contains, list_any-from_Contains, Contains-from_any}
 use Rattle.lineage_log.specs.Reader.{taken}
-use Rattle.world_core.proofs.StandingLemmas.{OneList, cells_of, count_in, is_found}
+use Rattle.world_core.proofs.StandingLemmas.{cells_of, count_in, is_found}
 use Rattle.world_core.proofs.SumLemmas.{cells_with, one}
 
 -- the cells where somebody stands
@@ -84,21 +84,12 @@ shown-in f xs y d (k, within, is) =
     (get_or xs k d, Contains-get_or xs k d inside, sym (get_or-map f xs k d y inside) ∙ is)
 
 module _ (one_list : OneList) where
-  -- the test of two lists of letters is an equivalence
-  letters-equal : IsEquivalence same_letters
-  letters-equal = record {
-    refl = λ x. (one_list x x).1 refl;
-    symm = λ x y. same_from_decides (same_letters x y) (same_letters y x) (one_list x y)
-        (λ e. sym ((one_list y x).0 e), λ e. (one_list y x).1 (sym e));
-    congr = λ x y z same. ap (λ g. same_letters g z) ((one_list x y).0 same);
-  }
-
   -- and finds what is in a list
   found-in : (genomes : List (List Letter)) (genome : List Letter)
       → Decides (list_any (same_letters genome) genomes) (Contains genomes genome)
   found-in genomes genome = (
     Contains-from_any (λ x y. (one_list x y).0) genome genomes,
-    list_any-from_Contains letters-equal genome genomes,
+    list_any-from_Contains (same_letters-equivalence one_list) genome genomes,
   )
 
   -- a genome that is counted is among the genomes
@@ -258,7 +249,8 @@ module _ (one_list : OneList) where
         → length genotypes ≡ length (different_of (genomes_of_cells cells))
     genotype-number each =
         sym shown-long
-        ∙ length-from_same_keys letters-equal shown (different_of alive) shown-distinct
+        ∙ length-from_same_keys (same_letters-equivalence one_list) shown
+        (different_of alive) shown-distinct
         (different-distinct each)
         (λ q. same_from_decides (list_any (same_letters q) shown)
         (list_any (same_letters q) (different_of alive)) (found-in shown q)

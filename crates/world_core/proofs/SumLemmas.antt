@@ -1,21 +1,9 @@
 -- The sums over the cells, as one of them changes.
-use Rattle.std.proofs.Common.{◌≡◌, ◌∙◌, refl, sym, ap, ℕ, zero, suc, ◌+◌, ◌-◌, ◌*◌, ◌<◌, ◌≤◌, ◌^◌, Bool, true, false, cond, List, [], ◌∷◌, length, map, set, get_or, Option, Some, None, replicate, get_or-set_same, lt-length-set, set-set, arith}
+use Rattle.std.proofs.Common.{◌≡◌, ◌∙◌, refl, sym, ap, ℕ, ◌+◌, ◌-◌, ◌*◌, ◌<◌, ◌≤◌, ◌^◌, Bool, true, false, cond, List, length, map, set, get_or, Option, Some, None, replicate, get_or-set_same, lt-length-set, set-set, arith}
 use Rattle.std.specs.Prelude.{slice_index}
-use Rattle.world_core.proofs.Prelude.{All, count_by, length-set, length-replicate, All-map, All-replicate, All-same, All-set, sum_by-replicate, sum_by-set, sum_by-le, get_or-le-sum_by, count_by-le-length, AreCounted, CanRenew, tasks_with, tasks_without, GenotypeCount, Task, all_tasks, task_place, has_task, Occupant, merit_in, AreSummedIn, is_credited}
+use Rattle.world_core.proofs.Prelude.{All, count_by, length-set, length-replicate, All-map, All-replicate, All-same, All-set, sum_by-replicate, sum_by-set, sum_by-le, get_or-le-sum_by, count_by-le-length, AreCounted, CanRenew, tasks_with, tasks_without, GenotypeCount, Task, all_tasks, task_place, has_task, Occupant, merit_in, AreSummedIn, is_credited, map_same}
 use Rattle.std.specs.Int.{from_bool}
 use Rattle.logic_tasks.specs.declared.task.Task.TheVariants.{Not}
-
--- what two like functions make of a list
-pub map_alike : {A B : Type 0} (f g : A → B) → ((a : A) → f a ≡ g a) → (xs : List A)
-    → map f xs ≡ map g xs
-map_alike f g alike [] = refl
-map_alike f g alike (x ∷ xs) = λ i. alike x i ∷ map_alike f g alike xs i
-
--- what a function makes of one thing that stands everywhere
-pub map-replicate : {A B : Type 0} (f : A → B) (n : ℕ) (x : A)
-    → map f (replicate n x) ≡ replicate n (f x)
-map-replicate f zero x = refl
-map-replicate f (suc n) x = ap (λ rest. f x ∷ rest) (map-replicate f n x)
 
 -- what stands at the place of a task in a list of one number a task
 pub at_task : (f : Task → ℕ) (task : Task)
@@ -49,7 +37,7 @@ AreSummedIn-none n few = record {
   few = omega (arith, few, length-replicate {A = Option Occupant} n None);
   fits = All-replicate (λ slot. merit_in slot ≤ 2 ^ 38) n None (omega arith);
   merit_sum = omega (arith, sum_by-replicate merit_in n None);
-  task_counts = sym (map_alike (cells_with (replicate n None)) (λ task. 0)
+  task_counts = sym (map_same (cells_with (replicate n None)) (λ task. 0)
       (λ task. omega (arith, sum_by-replicate (λ slot. one (is_credited task slot)) n None))
       all_tasks);
 }
@@ -69,7 +57,7 @@ AreSummedIn-set cells cell slot merit next_merit tasks next_tasks f within fits 
       fits = All-set (λ slot. merit_in slot ≤ 2 ^ 38) cells cell slot fits are.fits;
       merit_sum =
           omega (arith, sum, are.merit_sum, sum_by-set merit_in cells cell slot None within);
-      task_counts = list ∙ map_alike f (cells_with (set cells cell slot))
+      task_counts = list ∙ map_same f (cells_with (set cells cell slot))
           (λ task. omega (
             arith,
             each task,

@@ -1,11 +1,10 @@
 -- A turn of the count after lives, over what is read of the cell.
 use Rattle.std.proofs.Common.{◌≡◌, ◌∙◌, sym, ap, ℕ, ◌+◌, ◌<◌, ◌≤◌, List, length, map, get_or, Option, None, arith}
-use Rattle.world_core.proofs.Prelude.{get_or_read, length-map, RoundNumbers, left_in, part_from, shard_lives_of, standing_in, Standing, Counts, Letter, OrganismState, ConfigValues, with_id, Occupant, occupants_of, CanCountChange, CountsChange, IsKeptOf}
+use Rattle.world_core.proofs.Prelude.{get_or_read, length-map, RoundNumbers, left_in, part_from, shard_lives_of, standing_in, Standing, Counts, Letter, OrganismState, ConfigValues, with_id, Occupant, occupants_of, CanCountChange, CountsChange, IsKeptOf, OneList}
 use Rattle.std.proofs.Math.ListN.{get_or-map}
 use Rattle.world_core.proofs.CellTableLemmas.{occupants_of-at, occupants_of-length}
 use Rattle.world_core.proofs.CountLemmas.{GoesOn, can-count, counted-again, mixed, mixed-all, mixed-at, mixed-length, mixed-step}
 use Rattle.world_core.proofs.LivedLemmas.{LiveApart, cells-long, lived-length}
-use Rattle.world_core.proofs.StandingLemmas.{OneList}
 
 -- what is read of the cells: the keys, and what is counted of them before and after the lives
 pub record AreRead (os left : List (Option OrganismState)) (keys : List ℕ)

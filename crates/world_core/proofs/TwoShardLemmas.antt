@@ -1,8 +1,7 @@
 -- A finished shard behind another, as one.
 use Rattle.std.proofs.Common.{◌≡◌, ◌∙◌, refl, sym, ◌+◌, List, [], ◌∷◌, ◌++◌, append-nil, append_assoc, arith}
-use Rattle.world_core.proofs.Prelude.{All, IsPermutation, All-append, IsPermutation-append_left, IsPermutation-refl, IsPermutation-trans, sum_by-cons, IsPrefix, IsNumbered, genome_in, Delivered, Finished, genotypes_of, own_calls_of, Entry, IsJoined}
-use Rattle.world_core.proofs.JoinLemmas.{IsPrefix-trans, calls_in}
-use Rattle.world_core.proofs.StandingLemmas.{prefix-stays}
+use Rattle.world_core.proofs.Prelude.{All, IsPermutation, All-append, IsPermutation-append_left, IsPermutation-refl, IsPermutation-trans, sum_by-cons, IsPrefix, IsNumbered, genome_in, Delivered, Finished, genotypes_of, own_calls_of, Entry, IsJoined, IsPrefix-trans, slice_get-begins}
+use Rattle.world_core.proofs.JoinLemmas.{calls_in}
 
 -- a number stays in a longer history
 number-stays : ((early history : List Entry) → IsPrefix early history
@@ -10,7 +9,7 @@ number-stays : ((early history : List Entry) → IsPrefix early history
     → (early history : List Entry) (d : Delivered) → IsPrefix early history → IsNumbered early d
     → IsNumbered history d
 number-stays stay early history d longer number = record {
-  place = prefix-stays (genotypes_of early) (genotypes_of history) d.handle.number (genome_in d)
+  place = slice_get-begins (genotypes_of early) (genotypes_of history) d.handle.number (genome_in d)
       (stay early history longer) number.place;
   small = number.small;
 }

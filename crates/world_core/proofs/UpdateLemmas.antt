@@ -1,67 +1,9 @@
--- What every phase of an update keeps, and how their texts join.
-use Rattle.std.proofs.Common.{◌≡◌, ◌∙◌, refl, ℕ, ◌+◌, List, [], ◌∷◌, ◌++◌, Option, length, map, append_assoc, append-nil, arith}
-use Rattle.world_core.proofs.Prelude.{fold, length-map, length-map-range_with_len, lines_text, Link, Line, Count, Stats, line_text, OrganismState, Placing, EventValue, WhatValue, inject, clear, rate, ConfigValues, Occupant, World, Scene, cells_from, with_death, with_deaths, with_newcomer, CellLife, life_at, lives_of, next_stats, scene_stats, birth_lines, event_lines, lines_of_lives, update_lines, Delivery, after_lives, lives_after, births_of, turns_of, events_at, with_newborn, after_births, after_burials, after_what, after_event, after_events, last_scene, next_scene, scene_of_lives, departed_from, departure_line, staying_in, Departure}
+-- The phases of an update lead to its scene, and their texts join.
+use Rattle.std.proofs.Common.{◌≡◌, ◌∙◌, refl, ℕ, ◌+◌, List, [], ◌∷◌, ◌++◌, Option, length, map, append_assoc, append-nil, arith, ap}
+use Rattle.world_core.proofs.Prelude.{length-map, length-map-range_with_len, lines_text, Line, Count, Stats, line_text, ConfigValues, Occupant, World, Scene, CellLife, life_at, lives_of, next_stats, scene_stats, birth_lines, event_lines, lines_of_lives, update_lines, Delivery, after_lives, lives_after, births_of, after_births, after_burials, after_events, last_scene, next_scene, scene_of_lives, departed_from, departure_line, staying_in, Departure}
 use Rattle.std.proofs.lemmas.Grind.{flat_map-append}
 use Rattle.world_core.proofs.BurialLemmas.{burial-lines-are, burials-are}
-
--- a death leaves the update
-pub with_death-update : (scene : Scene) (cell : ℕ) → (with_death scene cell).update ≡ scene.update
-unfolding with_death
-with_death-update scene cell = refl
-
--- so does a newcomer
-pub with_newcomer-update : (scene : Scene) (link : Link) (organism : OrganismState)
-    → (with_newcomer scene link organism).update ≡ scene.update
-unfolding with_newcomer
-with_newcomer-update scene link organism = refl
-
--- so do many steps that leave it
-pub fold-update : {A : Type 0} (f : Scene → A → Scene)
-    → ((scene : Scene) (x : A) → (f scene x).update ≡ scene.update) → (scene : Scene) (xs : List A)
-    → (fold f scene xs).update ≡ scene.update
-fold-update f keeps scene [] = refl
-fold-update f keeps scene (x ∷ xs) = fold-update f keeps (f scene x) xs ∙ keeps scene x
-
--- so do deaths
-pub with_deaths-update : (scene : Scene) (cells : List ℕ)
-    → (with_deaths scene cells).update ≡ scene.update
-with_deaths-update scene cells = fold-update with_death with_death-update scene cells
-
--- so does a newborn
-pub with_newborn-update : (config : ConfigValues) (scene : Scene) (turn : Delivery × Placing)
-    → (with_newborn config scene turn).update ≡ scene.update
-unfolding with_newborn
-with_newborn-update config scene turn = with_newcomer-update scene _ _
-
--- so do all newborns
-pub after_births-update : (config : ConfigValues) (scene : Scene) (births : List Delivery)
-    → (after_births config scene births).update ≡ scene.update
-unfolding after_births
-after_births-update config scene births =
-    fold-update (with_newborn config) (with_newborn-update config) scene
-    (turns_of config scene births)
-
--- so does what happens in an event
-pub after_what-update : (config : ConfigValues) (scene : Scene) (nth : ℕ) (what : WhatValue)
-    → (after_what config scene nth what).update ≡ scene.update
-after_what-update config scene nth (inject cell letters) = with_newcomer-update scene _ _
-after_what-update config scene nth (clear first last) =
-    with_deaths-update scene (cells_from first last)
-after_what-update config scene nth (rate name ppm) = refl
-
--- so does an event
-pub after_event-update : (config : ConfigValues) (scene : Scene) (event : ℕ × EventValue)
-    → (after_event config scene event).update ≡ scene.update
-unfolding after_event
-after_event-update config scene event = after_what-update config scene event.0 event.1.what
-
--- so do all events
-pub after_events-update : (config : ConfigValues) (scene : Scene)
-    → (after_events config scene).update ≡ scene.update
-unfolding after_events
-after_events-update config scene =
-    fold-update (after_event config) (after_event-update config) scene
-    (events_at config scene.update)
+use Rattle.world_rules.proofs.Updates.{update_next}
 
 -- the texts of an update's phases are the text of its lines
 pub joined : (t : List ℕ) (a b c : List Line) (d : Line)
@@ -134,5 +76,5 @@ module _ (config : ConfigValues) (w : World) (dead : List Departure) (births : L
 
   -- an update is one more
   pub update_of_phases : s3.update ≡ w.update + 1
-  update_of_phases =
-      rw (p.happened, after_events-update, p.placed, after_births-update, p.buried, p.lived) refl
+  unfolding next_scene
+  update_of_phases = ap (λ (s : Scene). s.update) scene_of_phases ∙ update_next config w lives

@@ -4,10 +4,7 @@ use Rattle.std.specs.Prelude.{◌≡◌, ◌++◌, List, Some, map, slice_get, �
 use Rattle.world_core.specs.Prelude.{IsPrefix, All, Letter, genome_in, Delivered, HasEachOnce, Link, option_to_list, Scene, Occupant, id_at, World, Stats, ConfigValues, stats_of, world_of, world_after, organism_values, SavedState, state_of_world, values_in, CanGoOn}
 use Rattle.saved_lines.specs.declared.resident.Resident.{Resident}
 use Rattle.virtual_cpu.specs.View.{image_of}
-
--- the genomes of these organisms at birth, in their order
-abbrev pub genomes_ever : List Link → List (List Letter)
-genomes_ever everyone = map (λ link. link.genome) everyone
+pub use Rattle.world_rules.specs.World.{genomes_ever}
 
 -- the genome of a newborn has its number in this bank
 abbrev pub HasNumber : List (List Letter) → Delivered → Type 0

@@ -1,12 +1,10 @@
 -- Who stands in the cells after the lives of an update, and how many newborns there are.
 use Rattle.std.proofs.Common.{◌≡◌, ℕ, zero, suc, ◌+◌, ◌<◌, ◌≤◌, List, [], ◌∷◌, map, length, take, Option, Some, None, refl, sym, ap, ◌∙◌, arith, length-append, inl, inr, sum}
 use Rattle.std.specs.Prelude.{slice_get, slice_index_or, flat_map}
-use Rattle.world_laws.proofs.Prelude.{AllByRecursion, enumerate_from, zip, length-map, take_all, get_or_past, sum_by_more, sum_by-take-le, cases_lt, Letter, Placing, NewbornValue, IsSoundOrganism, ConfigValues, Occupant, id_of, ids_of, CellLife, Delivery, births_by, births_in, births_of, delivery_of}
-use Rattle.world_laws.proofs.Mirror.{People}
+use Rattle.world_laws.proofs.Prelude.{AllByRecursion, enumerate_from, zip, length-map, take_all, get_or_past, sum_by_more, sum_by-take-le, cases_lt, Letter, Placing, NewbornValue, IsSoundOrganism, ConfigValues, Occupant, id_of, ids_of, CellLife, Delivery, births_by, births_in, births_of, delivery_of, all_append, People}
 use Rattle.world_laws.proofs.Scenes.{Stands, Known, Each}
 use Rattle.world_laws.proofs.UpdateLines.{IsTurn}
 use Rattle.world_laws.proofs.Updates.{KeepsFolk}
-use Rattle.world_laws.proofs.Placements.{all_append}
 use Rattle.world_laws.proofs.LivesLemmas.{IsNewborn, IsLife, AreLives}
 
 -- the cells that lives leave

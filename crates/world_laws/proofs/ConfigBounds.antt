@@ -3,16 +3,11 @@ use Rattle.std.proofs.Common.{◌≡◌, ◌-◌, ◌*◌, ◌≤◌, true, List
 use Rattle.std.specs.Prelude.{nat_le}
 use Rattle.world_laws.proofs.Prelude.{AllByRecursion, mul-le-mul, and_parts, leb-true, recursion_from_All, EventValue, WhatValue, inject, clear, rate, what_fits, event_fits, event_values, values_of, ConfigValues, IsConfig, size_of, FitsWhat}
 use Rattle.world_config.specs.declared.config.Config.{Config}
-use Rattle.world_config.specs.KeyTable.{frame_of, Frame}
-
--- the frame of a configuration's events
-abbrev frame : ConfigValues → Frame
-frame config =
-    frame_of config.width config.height config.updates config.rules.least config.rules.greatest
+use Rattle.world_config.proofs.ReadBackLemmas.{values_frame}
 
 -- what the frame allows an event to do fits the configuration
 what_within : (config : ConfigValues) → 1 ≤ size_of config → (what : WhatValue)
-    → what_fits (frame config) what ≡ true → FitsWhat config what
+    → what_fits (values_frame config) what ≡ true → FitsWhat config what
 what_within config some (inject cell letters) h =
     let first = and_parts _ _ h in
     let lengths = and_parts _ _ first.1 in
@@ -25,7 +20,7 @@ what_within config some (rate name ppm) h = leb-true _ _ h
 
 -- events that fit the frame fit the configuration
 events_within : (config : ConfigValues) → 1 ≤ size_of config → (events : List EventValue)
-    → AllByRecursion (λ event. event_fits (frame config) event ≡ true) events
+    → AllByRecursion (λ event. event_fits (values_frame config) event ≡ true) events
     → AllByRecursion (λ event. FitsWhat config event.what) events
 events_within config some [] h = tt
 events_within config some (event ∷ events) h =

@@ -1,8 +1,7 @@
 -- What the bounds of a configuration say of its values.
 use Rattle.std.proofs.Common.{ℕ, ◌+◌, ◌≤◌, Bool, List, [], ◌∷◌, length, arith}
 use Rattle.std.specs.Prelude.{filter, ◌==◌}
-use Rattle.world_laws.proofs.Prelude.{AllByRecursion, enumerate_from, length-enumerate_from, length-filter, count_by-le-length, mul-le-mul, Letter, IsGenome, EventValue, ConfigValues, events_at, FitsWhat, IsConfig, size_of}
-use Rattle.world_laws.proofs.Placements.{all_filtered}
+use Rattle.world_laws.proofs.Prelude.{AllByRecursion, enumerate_from, length-enumerate_from, length-filter, count_by-le-length, mul-le-mul, Letter, IsGenome, EventValue, ConfigValues, events_at, FitsWhat, IsConfig, size_of, all_filtered}
 
 -- the same of an event with its place in the list
 abbrev pub FitsPlaced : ConfigValues → ℕ × EventValue → Type 0

@@ -1,14 +1,14 @@
 -- The genomes of all who ever were in a world come from their parents'.
 use Rattle.std.proofs.Common.{◌≡◌, ℕ, zero, suc, List, [], ◌∷◌, ◌++◌, Option, Some, None, refl, sym, subst, ◌∙◌, inl, inr}
 use Rattle.std.specs.Prelude.{slice_get, fold}
-use Rattle.world_laws.proofs.Prelude.{AllByRecursion, slice_get-map, Placing, Link, EventValue, WhatValue, inject, clear, rate, ConfigValues, World, founder_link, first_world, Scene, next_id, with_death, with_deaths, cells_from, with_newcomer, Delivery, birth_link, with_newborn, after_what, after_event, after_burials, deaths_of, births_of, turns_of, after_births, events_at, after_events, last_scene, scene_of_lives, lives_after, next_scene, next_world, world_after, ComesFrom, AreDescended, LifeLaws, IsConfig, size_of}
-use Rattle.log_lines.proofs.FieldLaws.{some_map}
-use Rattle.world_laws.proofs.ListLemmas.{fold-keeps, get_last, get_more}
-use Rattle.world_laws.proofs.Mirror.{People}
+use Rattle.world_laws.proofs.Prelude.{AllByRecursion, slice_get-map, Placing, Link, EventValue, WhatValue, inject, clear, rate, ConfigValues, World, founder_link, first_world, Scene, next_id, cells_from, with_newcomer, Delivery, birth_link, with_newborn, after_what, after_event, after_burials, deaths_of, births_of, turns_of, after_births, events_at, after_events, last_scene, scene_of_lives, lives_after, next_scene, next_world, world_after, ComesFrom, AreDescended, LifeLaws, IsConfig, size_of, People, get_more, get_pushed}
+use Rattle.world_laws.proofs.ListLemmas.{fold-keeps}
 use Rattle.world_laws.proofs.Scenes.{IsScene}
 use Rattle.world_laws.proofs.UpdateLines.{IsTurn, scene_birth, scene_deaths}
 use Rattle.world_laws.proofs.Runs.{IsRun, ended, scene_ended, turns_are}
 use Rattle.world_laws.proofs.WholeLogs.{kept_after, run_after}
+use Rattle.world_rules.proofs.IdLemmas.{deaths_keep}
+use Rattle.genome.proofs.ListLemmas.{some_map}
 
 -- who came from somebody did so among more
 comes_more : (everyone : List Link) (new : Link) (parent : Option ℕ) (link : Link)
@@ -20,10 +20,10 @@ comes_more everyone new (Some parent) link is =
 -- with one more who comes from its parent, each still does
 descended_more : (everyone : List Link) (new : Link) → AreDescended everyone
     → ComesFrom everyone new.parent new → AreDescended (everyone ++ new ∷ [])
-descended_more everyone new are is place link h = elim (get_last everyone new place link h) [
+descended_more everyone new are is place link h = elim (get_pushed everyone new link place h) [
   | inl before ↦ comes_more everyone new link.parent link (are place link before)
   | inr last ↦ comes_more everyone new link.parent link
-      (subst (λ (l : Link). ComesFrom everyone l.parent l) last is)
+      (subst (λ (l : Link). ComesFrom everyone l.parent l) last.1 is)
 ]
 
 -- after a lawful birth each who ever was still comes from its parent
@@ -58,13 +58,6 @@ descended_births size start config scene (turn ∷ turns) is lawful are =
     (scene_birth size start config scene turn is) lawful.1
     (descended_birth size start config scene turn is lawful.0 are)
 
--- deaths change no link
-same_everyone : (scene : Scene) (cells : List ℕ)
-    → (with_deaths scene cells).everyone ≡ scene.everyone
-unfolding with_death
-same_everyone scene [] = refl
-same_everyone scene (cell ∷ cells) = same_everyone (with_death scene cell) cells
-
 -- after what an event does each who ever was still comes from its parent
 descended_what : (config : ConfigValues) (scene : Scene) (nth : ℕ) (what : WhatValue)
     → AreDescended scene.everyone → AreDescended (after_what config scene nth what).everyone
@@ -72,7 +65,7 @@ unfolding with_newcomer
 descended_what config scene nth (inject cell letters) are =
     descended_more scene.everyone (founder_link (next_id scene) scene.update cell letters) are refl
 descended_what config scene nth (clear first last) are =
-    rw (same_everyone scene (cells_from first last)) are
+    rw (deaths_keep scene (cells_from first last)) are
 descended_what config scene nth (rate name ppm) are = are
 
 -- so it is after events, one after another
@@ -104,7 +97,7 @@ module _ (laws : LifeLaws) (config : ConfigValues) (fit : IsConfig config) where
       let born = after_births config buried (births_of lives) in
       let turns = turns_are laws config fit n start w is in
       let still : AreDescended buried.everyone =
-      subst AreDescended (sym (same_everyone scene (deaths_of lives))) are in
+      subst AreDescended (sym (deaths_keep scene (deaths_of lives))) are in
       descended_events config born (events_at config born.update)
       (descended_births (size_of config) start config buried
       (turns_of config buried (births_of lives))

@@ -1,10 +1,9 @@
 -- What holds of each who stands in the cells, as organisms go and come.
 use Rattle.std.proofs.Common.{◌≡◌, ◌≢◌, inl, inr, sym, subst, ℕ, zero, suc, ◌+◌, ◌<◌, ◌≤◌, Bool, false, List, [], ◌∷◌, length, map, get_or, Option, Some, None, arith}
 use Rattle.std.specs.Prelude.{filter, flat_map}
-use Rattle.world_laws.proofs.Prelude.{AllByRecursion, enumerate_from, range_with_len, cases_Bool, cases_eq, length-map, recursion_from_All, get_or-map-range_with_len, length-map-range_with_len, slice_get-get_or, slice_get-map, slice_get_within, NewbornValue, OrganismState, Link, CellLife, no_life, Scene, with_death, with_deaths, with_newcomer, Occupant, Delivery, births_by, births_in, delivery_of}
+use Rattle.world_laws.proofs.Prelude.{AllByRecursion, enumerate_from, range_with_len, cases_Bool, cases_eq, length-map, recursion_from_All, get_or-map-range_with_len, length-map-range_with_len, slice_get-get_or, slice_get-map, slice_get_within, NewbornValue, OrganismState, Link, CellLife, no_life, Scene, with_death, with_deaths, with_newcomer, Occupant, Delivery, births_by, births_in, delivery_of, all_append}
 use Rattle.world_laws.proofs.AfterLives.{left_by}
 use Rattle.world_laws.proofs.ListLemmas.{get_emptied}
-use Rattle.world_laws.proofs.Placements.{all_append}
 use Rattle.world_laws.proofs.Scenes.{Each, Stands, stands_with}
 
 -- ---- who stands once some have died

@@ -110,8 +110,3 @@ module _ (laws : LifeLaws) (config : ConfigValues) (fit : IsConfig config) (w : 
   pub all_grown : length w.everyone ≤ length (next_world config w).everyone
   unfolding next_world next_scene scene_of_lives
   all_grown = end_goes.grown
-
-  -- it is the update after
-  pub next_update : (next_world config w).update ≡ w.update + 1
-  unfolding next_world next_scene scene_of_lives
-  next_update = end_goes.update

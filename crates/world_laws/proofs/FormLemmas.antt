@@ -1,19 +1,10 @@
 -- The parts of a line have the forms that a log asks for.
-use Rattle.std.proofs.Common.{◌+◌, ◌≡◌, ℕ, suc, ◌*◌, ◌^◌, ◌<◌, ◌≤◌, true, List, [], ◌∷◌, map, length, Option, Some, None, refl, arith, sum_by}
+use Rattle.std.proofs.Common.{◌+◌, ◌≡◌, ℕ, suc, ◌*◌, ◌^◌, ◌<◌, ◌≤◌, List, [], ◌∷◌, map, length, Option, Some, None, refl, arith, sum_by}
 use Rattle.std.specs.Prelude.{not, is_some, IfSome}
-use Rattle.world_laws.proofs.Prelude.{AllByRecursion, nat_tests, length-map, sum_by-cons, count_by-le-length, Letter, different_of, IsGenome, Task, all_tasks, has_task, Count, HasForm, IsLarge, taken, OrganismState, IsSoundOrganism, Occupant, id_of, ids_of, Scene, organisms_in, genomes_of_cells, credited_with, stats_in, scene_stats}
+use Rattle.world_laws.proofs.Prelude.{AllByRecursion, length-map, sum_by-cons, count_by-le-length, Letter, different_of, Task, all_tasks, has_task, Count, HasForm, IsLarge, taken, OrganismState, IsSoundOrganism, Occupant, id_of, ids_of, Scene, organisms_in, genomes_of_cells, credited_with, stats_in, scene_stats}
 use Rattle.instruction_set.specs.Letter.{same_letters}
-use Rattle.mutations.specs.Change.{is_genome_length}
 use Rattle.world_laws.proofs.Scenes.{Each}
 use Rattle.world_laws.proofs.Configs.{filter_few}
-
--- a genome has letters enough and not too many
-pub letters_form : (letters : List Letter) → IsGenome letters
-    → is_genome_length (length letters) ≡ true
-letters_form letters h =
-    let least = h.least in
-    let greatest = h.greatest in
-    grind (arith, nat_tests)
 
 -- an id, or none
 pub over_form : (slot : Option ℕ) (end : ℕ) → ((id : ℕ) → slot ≡ Some id → id < end)

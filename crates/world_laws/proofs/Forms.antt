@@ -1,15 +1,13 @@
 -- Each line of an update has the form that a log asks for.
 use Rattle.std.proofs.Common.{◌≡◌, ℕ, suc, ◌+◌, ◌<◌, ◌≤◌, List, [], ◌∷◌, length, Some, arith, length-append}
 use Rattle.std.specs.Prelude.{IfSome}
-use Rattle.world_laws.proofs.Prelude.{AllByRecursion, filter_map, flat_map, scan, zip, slice_get_within, Placing, Line, Death, Cleared, HasForm, IsLarge, EventValue, WhatValue, inject, clear, rate, ConfigValues, founder_link, Scene, next_id, standing_at, with_death, with_deaths, cells_from, with_newcomer, Delivery, birth_link, with_newborn, after_what, after_event, death_lines, birth_line, cleared_line, what_lines, lines_of_event, IsConfig, size_of, FitsWhat}
-use Rattle.world_laws.proofs.Mirror.{People}
+use Rattle.world_laws.proofs.Prelude.{AllByRecursion, filter_map, flat_map, scan, zip, slice_get_within, Placing, Line, Death, Cleared, HasForm, IsLarge, EventValue, WhatValue, inject, clear, rate, ConfigValues, founder_link, Scene, next_id, standing_at, with_death, with_deaths, cells_from, with_newcomer, Delivery, birth_link, with_newborn, after_what, after_event, death_lines, birth_line, cleared_line, what_lines, lines_of_event, IsConfig, size_of, FitsWhat, all_append, People, genome-fits}
 use Rattle.world_laws.proofs.Scenes.{IsScene, who_stands, id_small, scene_death}
 use Rattle.world_laws.proofs.LeavingLines.{leaving_lines}
 use Rattle.world_laws.proofs.UpdateLines.{scene_birth, scene_what}
-use Rattle.world_laws.proofs.Placements.{all_append}
 use Rattle.world_laws.proofs.AfterLives.{IsDelivery}
 use Rattle.world_laws.proofs.Configs.{FitsPlaced, genome_fits, few_cells}
-use Rattle.world_laws.proofs.FormLemmas.{letters_form, over_form}
+use Rattle.world_laws.proofs.FormLemmas.{over_form}
 
 -- each line has its form
 abbrev pub Forms : List Line → Type 0
@@ -141,7 +139,7 @@ module _ (start : People) (config : ConfigValues) (fit : IsConfig config) where
   what_fit scene more (inject cell letters) is room fits =
       let small = few_cells config fit in
       let over = over_fits (size_of config) start small scene (suc more) is room cell in
-      let text = letters_form letters (genome_fits config fit letters fits.1 fits.2) in (
+      let text = genome-fits letters (genome_fits config fit letters fits.1 fits.2) in (
         (
           (omega arith, omega (arith, room.ids)),
           (omega arith, room.early),

@@ -1,10 +1,8 @@
 -- The ids of a run are few: those of all who ever were in its world, and those of its log.
 use Rattle.std.proofs.Common.{◌≡◌, ℕ, ◌+◌, ◌^◌, ◌<◌, ◌≤◌, List, [], ◌∷◌, ◌++◌, length, sym, subst, ◌∙◌, arith}
 use Rattle.std.specs.Prelude.{All, option_map}
-use Rattle.world_laws.proofs.Prelude.{AllByRecursion, filter_map, flat_map, scan, zip, All-from_recursion, slice_get-get_or, Placing, Line, Cleared, Death, End, Reads, EventValue, WhatValue, inject, clear, rate, ConfigValues, World, Scene, cells_from, standing_at, with_death, Delivery, after_births, after_burials, after_event, after_lives, births_of, deaths_of, events_at, lives_after, placings_of, with_newborn, birth_line, birth_lines, death_lines, event_lines, lines_of_event, lines_of_lives, log_text, update_lines, what_lines, IsNumberedWorld, world_after, LifeLaws, GivesSmallId, IsConfig}
+use Rattle.world_laws.proofs.Prelude.{AllByRecursion, filter_map, flat_map, scan, zip, All-from_recursion, slice_get-get_or, Placing, Line, Cleared, Death, End, Reads, EventValue, WhatValue, inject, clear, rate, ConfigValues, World, Scene, cells_from, standing_at, with_death, Delivery, after_births, after_burials, after_event, after_lives, births_of, deaths_of, events_at, lives_after, placings_of, with_newborn, birth_line, birth_lines, death_lines, event_lines, lines_of_event, lines_of_lives, log_text, update_lines, what_lines, IsNumberedWorld, world_after, LifeLaws, GivesSmallId, IsConfig, all_append, People}
 use Rattle.world_laws.proofs.LeavingLines.{leaving_lines}
-use Rattle.world_laws.proofs.Mirror.{People}
-use Rattle.world_laws.proofs.Placements.{all_append}
 use Rattle.world_laws.proofs.AfterLives.{IsBorn, births_born}
 use Rattle.world_laws.proofs.Configs.{FitsPlaced, events_few, events_fit}
 use Rattle.world_laws.proofs.Sounds.{goes_birth, goes_births, goes_deaths, goes_event}

@@ -1,7 +1,7 @@
 pub mod Prelude
 pub mod ListLemmas
 mod Mirror
-mod Scenes
+pub mod Scenes
 mod Steps
 mod UpdateLines
 mod Updates

@@ -1,11 +1,10 @@
 -- A life keeps the limit and the sets of an organism, and ends before the age of death or with it.
 use Rattle.std.proofs.Common.{◌≡◌, ◌⊎◌, inl, inr, ◌∙◌, refl, ap, ℕ, ℤ, zero, suc, ◌+◌, ◌*◌, ◌<◌, ◌≤◌, Bool, true, false, [], ◌∷◌, length, Option, Some, None, arith, add-one}
 use Rattle.std.specs.Prelude.{find}
-use Rattle.world_laws.proofs.Prelude.{AllByRecursion, range_with_len, cases_Bool, cases_eq, eq-eqb, length-replicate, Letter, Machine, letter_under_ip, KeepsLimits, step, Outcome, life_step, next_input, older, renewed, NewbornValue, OrganismState, SettingNumbers, LifeState, after_copy_of, after_outcome, after_step, copy_of, death_in, dies_at, ended, is_death, is_old, life, life_state_after, newborn_of}
+use Rattle.world_laws.proofs.Prelude.{AllByRecursion, range_with_len, cases_Bool, cases_eq, eq-eqb, length-replicate, Letter, Machine, letter_under_ip, KeepsLimits, step, Outcome, life_step, next_input, older, renewed, NewbornValue, OrganismState, SettingNumbers, LifeState, after_copy_of, after_outcome, after_step, copy_of, death_in, dies_at, ended, is_death, is_old, life, life_state_after, newborn_of, all_append}
 use Rattle.organism.specs.declared.outcome.Outcome.TheVariants as outcome
 use Rattle.organism.specs.declared.ran.Ran.{Ran}
 use Rattle.world_laws.proofs.Keepings.{Lasting, step-leaves, steps-kept}
-use Rattle.world_laws.proofs.Placements.{all_append}
 
 -- no step changes the limit of a machine
 abbrev pub KeepLimits : Type 0

@@ -1,5 +1,5 @@
 -- Lists that were written at a place, or grew at their end, and folds over lists.
-use Rattle.std.proofs.Common.{◌≡◌, ◌≢◌, ℕ, zero, suc, ◌+◌, ◌<◌, true, List, [], ◌∷◌, ◌++◌, map, length, drop, Option, Some, None, refl, sym, ap, arith, eq-eqb, ◌⊎◌, inl, inr, ◌∙◌}
+use Rattle.std.proofs.Common.{◌≡◌, ◌≢◌, ℕ, zero, suc, ◌+◌, ◌<◌, true, List, [], ◌∷◌, ◌++◌, map, length, drop, Option, Some, None, refl, sym, ap, arith, eq-eqb, inl, inr, ◌∙◌}
 use Rattle.std.specs.Prelude.{slice_get, slice_set, slice_index_or, ◌==◌, fold, replicate}
 use Rattle.world_laws.proofs.Prelude.{cases_eq, length-set, set-get_or, slice_get_within, get_other}
 
@@ -22,26 +22,6 @@ get_emptied xs i at x h = elim (cases_eq i at) [
       absurd cc
   | inr other ↦ (sym (get_other xs at i None other) ∙ h, other)
 ]
-
--- what stands in a list still stands there with others behind
-pub get_more : {X : Type 0} (xs ys : List X) (i : ℕ) (x : X) → slice_get xs i ≡ Some x
-    → slice_get (xs ++ ys) i ≡ Some x
-get_more [] ys i x h = absurd cc
-get_more (y ∷ xs) ys zero x h = h
-get_more (y ∷ xs) ys (suc i) x h = get_more xs ys i x h
-
--- the item behind a list stands at the list's length
-pub get_seam : {X : Type 0} (xs ys : List X) (x : X) → slice_get (xs ++ x ∷ ys) (length xs) ≡ Some x
-get_seam [] ys x = refl
-get_seam (y ∷ xs) ys x = get_seam xs ys x
-
--- what stands in a list that grew by one item
-pub get_last : {X : Type 0} (xs : List X) (x : X) (i : ℕ) (y : X)
-    → slice_get (xs ++ x ∷ []) i ≡ Some y → (slice_get xs i ≡ Some y) ⊎ (x ≡ y)
-get_last [] x zero y h = inr cc
-get_last [] x (suc i) y h = absurd cc
-get_last (z ∷ xs) x zero y h = inl h
-get_last (z ∷ xs) x (suc i) y h = get_last xs x i y h
 
 -- a number passes the test of equality with itself
 pub eqb_same : (n : ℕ) → (n == n) ≡ true

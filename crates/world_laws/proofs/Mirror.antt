@@ -1,10 +1,6 @@
 -- What the order's reader knows of a world within an update, and what a replay has seen of it.
 use Rattle.std.proofs.Common.{◌≡◌, ℕ, List, [], ◌∷◌, ◌++◌, map, length, drop, Option, Some, Ok, Err, refl, ap, ◌∙◌}
-use Rattle.world_laws.proofs.Prelude.{Letter, Line, Stage, Quiet, LogPlace, Within, told, told_all, and_on, Reader, Seen, seen_on, seen_all, Link, Occupant, ids_of, Scene}
-
--- the genomes of those who lived when the update began, by id
-abbrev pub People : Type 0
-People = List (Option (List Letter))
+use Rattle.world_laws.proofs.Prelude.{Letter, Line, Stage, Quiet, LogPlace, Within, told, told_all, and_on, Reader, Seen, seen_on, seen_all, Link, Occupant, ids_of, Scene, People, genomes_ever}
 
 -- the genome in a link
 abbrev pub written : Link → Option (List Letter)
@@ -40,13 +36,9 @@ between start due cells = record {
   births = 0;
 }
 
--- the genome of each link
-abbrev pub genomes_of : List Link → List (List Letter)
-genomes_of everyone = map (λ link. link.genome) everyone
-
 -- what a replay has seen of a world
 abbrev pub seen_in : List (Option Occupant) → List Link → Seen
-seen_in cells everyone = record { standing = ids_of cells; genomes = genomes_of everyone }
+seen_in cells everyone = record { standing = ids_of cells; genomes = genomes_ever everyone }
 
 -- these lines take the reader and the replay on
 pub record Tells (before : LogPlace) (early : Seen) (lines : List Line) (after : LogPlace)

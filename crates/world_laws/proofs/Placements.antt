@@ -1,7 +1,7 @@
 -- Newborns are placed in cells of the torus, one placing each.
-use Rattle.std.proofs.Common.{ℕ, zero, suc, ◌+◌, ◌*◌, ◌/◌, ◌<◌, ◌≤◌, Bool, true, false, cond, List, [], ◌∷◌, ◌++◌, Option, arith}
+use Rattle.std.proofs.Common.{ℕ, zero, suc, ◌+◌, ◌*◌, ◌/◌, ◌<◌, ◌≤◌, Bool, true, false, cond, List, [], ◌∷◌, Option, arith}
 use Rattle.std.specs.Prelude.{◌==◌, count_by, slice_index_or, filter, fold, ◌%◌}
-use Rattle.world_laws.proofs.Prelude.{AllByRecursion, mul-le-mul_left, div-lt_iff_lt-mul, HasTopBytes, inputs_of-top, Placing}
+use Rattle.world_laws.proofs.Prelude.{AllByRecursion, mul-le-mul_left, div-lt_iff_lt-mul, HasTopBytes, inputs_of-top, Placing, all_append, all_filtered}
 use Rattle.birth_board.specs.declared.placing_round.PlacingRound.{PlacingRound}
 use Rattle.birth_board.specs.Torus.{TorusNumbers, cells_of, west_of, east_of, north_of, south_of, around, neighbours_of}
 use Rattle.birth_board.specs.Placement.{Board, is_free, choices_of, chosen_cell, placing_words, placing_of, next_placing, next_board, placements_of}
@@ -73,26 +73,12 @@ all_or : {X : Type 0} (P : X → Type 0) (b : Bool) (xs ys : List X) → AllByRe
 all_or P true xs ys h k = h
 all_or P false xs ys h k = k
 
--- a part of a list has what all of it has
-pub all_filtered : {X : Type 0} (P : X → Type 0) (test : X → Bool) (xs : List X)
-    → AllByRecursion P xs → AllByRecursion P (filter test xs)
-all_filtered P test [] all = tt
-all_filtered P test (x ∷ xs) all =
-    all_or P (test x) (x ∷ filter test xs) (filter test xs)
-    (all.0, all_filtered P test xs all.1) (all_filtered P test xs all.1)
-
 -- an entry of a list, or the default
 all_at : (P : ℕ → Type 0) (xs : List ℕ) (i d : ℕ) → P d → AllByRecursion P xs
     → P (slice_index_or xs i d)
 all_at P [] i d h all = h
 all_at P (x ∷ xs) zero d h all = all.0
 all_at P (x ∷ xs) (suc i) d h all = all_at P xs i d h all.1
-
--- two lists, one after another
-pub all_append : {X : Type 0} (P : X → Type 0) (xs ys : List X) → AllByRecursion P xs
-    → AllByRecursion P ys → AllByRecursion P (xs ++ ys)
-all_append P [] ys h k = k
-all_append P (x ∷ xs) ys h k = (h.0, all_append P xs ys h.1 k)
 
 -- a chosen cell lies in the torus
 chosen_in : (torus : TorusNumbers) (prefer : Bool) (occupants : List (Option ℕ)) (parent word : ℕ)

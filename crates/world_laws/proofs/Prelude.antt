@@ -1,9 +1,10 @@
 -- What the proofs of this crate cite from outside most often, passed on from one place.
 pub use Rattle.birth_board.specs.declared.placing.Placing.{Placing}
 pub use Rattle.divide_rules.specs.Rules.{RuleNumbers}
+pub use Rattle.genome.proofs.ListLemmas.{all_append}
 pub use Rattle.genome.specs.Genome.{IsGenome, different_of}
 pub use Rattle.instruction_set.specs.declared.letter.Letter.{Letter}
-pub use Rattle.lineage_log.proofs.StandingLemmas.{get_other, without}
+pub use Rattle.lineage_log.proofs.StandingLemmas.{People, all_filtered, get_more, get_other, get_pushed, get_seam, without}
 pub use Rattle.lineage_log.specs.LogGrammar.{IsGoodLog, Reads, lines_text}
 pub use Rattle.lineage_log.specs.Order.{After, Before, IsWhole, LogPlace, Within, and_on, at_next_update, told, told_all}
 unfoldable pub use Rattle.lineage_log.specs.Order.{told_birth, told_cleared, told_count, told_death, told_end, told_injected, told_rate, told_start}
@@ -18,6 +19,7 @@ pub use Rattle.logic_tasks.proofs.InputsLaws.{inputs_of-top}
 pub use Rattle.logic_tasks.specs.Inputs.{HasTopBytes, inputs_of}
 pub use Rattle.logic_tasks.specs.LogicTasks.{all_tasks, has_task, no_tasks, task_place}
 pub use Rattle.logic_tasks.specs.declared.task.Task.{Task}
+pub use Rattle.mutations.proofs.PointLemmas.{genome-fits}
 pub use Rattle.mutations.specs.BirthRecord.{BirthRecord, child_of}
 pub use Rattle.organism.specs.Life.{after_did, newly_done, next_input, older, with_done}
 unfoldable pub use Rattle.organism.specs.Life.{after_output, life_step, renewed}
@@ -61,7 +63,7 @@ pub use Rattle.world_rules.specs.Statistics.{credited_with, genomes_of_cells, or
 unfoldable pub use Rattle.world_rules.specs.Statistics.{stats_in}
 pub use Rattle.world_rules.specs.Update.{Delivery, after_lives, after_what, birth_link, births_by, births_in, child_of_birth, delivery_of, lives_after, turns_of}
 unfoldable pub use Rattle.world_rules.specs.Update.{after_births, after_burials, after_event, after_events, births_of, deaths_of, events_at, last_scene, next_scene, next_world, placings_of, scene_of_lives, with_newborn}
-pub use Rattle.world_rules.specs.World.{cells_from, empty_cells, first_occupant, founder_link, founder_words, id_at, id_of, ids_of, next_id, standing_at, with_deaths}
+pub use Rattle.world_rules.specs.World.{cells_from, empty_cells, first_occupant, founder_link, founder_words, genomes_ever, id_at, id_of, ids_of, next_id, standing_at, with_deaths}
 unfoldable pub use Rattle.world_rules.specs.World.{first_world, founder_of, with_death, with_newcomer}
 pub use Rattle.world_rules.specs.WorldRun.{resident_of, residents_of_world}
 unfoldable pub use Rattle.world_rules.specs.WorldRun.{world_after}

@@ -5,7 +5,7 @@ use Rattle.world_laws.proofs.Prelude.{AllByRecursion, zip, mul-le-mul, cases_lt,
 use Rattle.world_laws.proofs.Configs.{FitsPlaced, events_fit}
 use Rattle.world_laws.proofs.Each.{all_births, all_lives, each_left, each_with, fails_test, life_there, stood_before}
 use Rattle.world_laws.proofs.AfterLives.{IsBorn, births_born}
-use Rattle.world_laws.proofs.Endings.{all_come, all_grown, all_steps, next_own, next_sized, next_sound, next_update, sound_lives}
+use Rattle.world_laws.proofs.Endings.{all_come, all_grown, all_steps, next_own, next_sized, next_sound, sound_lives}
 use Rattle.world_laws.proofs.LifeRanges.{BringsNine, KeepLimits, LeavesInRange, LivesWithNine, life-in-range}
 use Rattle.world_laws.proofs.ListLemmas.{got_some}
 use Rattle.world_laws.proofs.Mirror.{written}
@@ -13,6 +13,7 @@ use Rattle.world_laws.proofs.Placements.{IsEquipped, placements_equipped}
 use Rattle.world_laws.proofs.RunForms.{everyone_few}
 use Rattle.world_laws.proofs.Scenes.{Each, id_below}
 use Rattle.world_laws.proofs.WholeLogs.{only_founder, run_after}
+use Rattle.world_rules.proofs.Updates.{next_update}
 
 -- no cell gets more steps than all together
 entry_few : (xs : List ℕ) (i : ℕ) → slice_index_or xs i 0 ≤ sum xs
@@ -269,7 +270,7 @@ module _ (laws : LifeLaws) (keep : KeepLimits) (config : ConfigValues) (fit : Is
           each = range_next;
           own = next_own laws config fit w stand.sound stand.own;
         };
-        update = next_update laws config fit w stand.sound;
+        update = next_update config w;
         grown = all_grown laws config fit w stand.sound;
         few = all_come laws config fit w stand.sound stand.cells;
       }

@@ -1,17 +1,15 @@
 -- Each line of a run has its form, and together they are the text of its log.
 use Rattle.std.proofs.Common.{◌≡◌, ℕ, zero, suc, ◌+◌, ◌*◌, ◌<◌, ◌≤◌, [], ◌∷◌, ◌++◌, length, refl, arith}
-use Rattle.world_laws.proofs.Prelude.{append_assoc, append-nil, End, HasForm, line_text, lines_text, ConfigValues, World, first_world, Scene, after_lives, after_burials, deaths_of, births_of, placings_of, turns_of, after_births, events_at, after_events, last_scene, lives_after, world_after, death_lines, birth_lines, event_lines, lines_of_lives, update_lines, head_line, head_text, update_text, end_text, updates_text, log_text, LifeLaws, IsConfig, size_of}
+use Rattle.world_laws.proofs.Prelude.{append_assoc, append-nil, End, HasForm, line_text, lines_text, ConfigValues, World, first_world, Scene, after_lives, after_burials, deaths_of, births_of, placings_of, turns_of, after_births, events_at, after_events, last_scene, lives_after, world_after, death_lines, birth_lines, event_lines, lines_of_lives, update_lines, head_line, head_text, update_text, end_text, updates_text, log_text, LifeLaws, IsConfig, size_of, all_append, People, genome-fits}
 use Rattle.std.proofs.lemmas.List.Concat.{flat_map-append}
-use Rattle.world_laws.proofs.Mirror.{People}
 use Rattle.world_laws.proofs.UpdateLines.{scene_deaths, scene_births}
 use Rattle.world_laws.proofs.Updates.{scene_last}
-use Rattle.world_laws.proofs.Placements.{all_append}
 use Rattle.world_laws.proofs.AfterLives.{births_born, sound_kept}
 use Rattle.world_laws.proofs.Configs.{events_fit, events_few, few_cells, genome_fits}
 use Rattle.world_laws.proofs.Sounds.{Goes, goes_deaths, goes_births}
 use Rattle.world_laws.proofs.Runs.{IsRun, scene_ended, lives_lawful, deliveries_lawful, placed_lawful, update_goes, few_born, few_come}
 use Rattle.world_laws.proofs.WholeLogs.{updates_lines, run_lines, each_update, kept_after, run_after}
-use Rattle.world_laws.proofs.FormLemmas.{letters_form, count_form}
+use Rattle.world_laws.proofs.FormLemmas.{count_form}
 use Rattle.world_laws.proofs.Forms.{Forms, HasRoom, deaths_fit, births_fit, events_fit_forms}
 
 -- once some have come, there is room for the rest
@@ -110,7 +108,7 @@ module _ (laws : LifeLaws) (config : ConfigValues) (fit : IsConfig config) where
         (fit.columns, fit.few_columns),
         (fit.rows, fit.few_rows),
         (omega arith, omega (arith, fit.founder, small)),
-        letters_form config.ancestor
+        genome-fits config.ancestor
             (genome_fits config fit config.ancestor fit.long_enough fit.short_enough),
       ) in (
         head,

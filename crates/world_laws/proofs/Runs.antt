@@ -1,10 +1,10 @@
 -- The lines of a run take the reader from the founder's world to that after its updates.
 use Rattle.std.proofs.Common.{◌≡◌, ℕ, suc, ◌+◌, ◌<◌, ◌≤◌, List, [], ◌∷◌, map, length, ◌∙◌, arith}
 use Rattle.std.specs.Prelude.{slice_index_or}
-use Rattle.world_laws.proofs.Prelude.{AllByRecursion, range_with_len, length-map, length-map-range_with_len, length-range_with_len, Placing, Within, IsSoundOrganism, EventValue, WhatValue, inject, clear, rate, ConfigValues, World, ids_of, Scene, next_id, torus_of, placing_round_at, no_life, slice_at, life_at, lives_of, Delivery, after_lives, after_burials, deaths_of, births_of, placings_of, events_at, last_scene, scene_of_lives, lives_after, next_scene, next_world, lines_of_lives, update_lines, LifeLaws, IsConfig, size_of, FitsWhat}
+use Rattle.world_laws.proofs.Prelude.{AllByRecursion, range_with_len, length-map, length-map-range_with_len, length-range_with_len, Placing, Within, IsSoundOrganism, EventValue, WhatValue, inject, clear, rate, ConfigValues, World, ids_of, Scene, next_id, torus_of, placing_round_at, no_life, slice_at, life_at, lives_of, Delivery, after_lives, after_burials, deaths_of, births_of, placings_of, events_at, last_scene, scene_of_lives, lives_after, next_scene, next_world, lines_of_lives, update_lines, LifeLaws, IsConfig, size_of, FitsWhat, People}
 use Rattle.std.proofs.lemmas.Slice.Zip.{length-zip}
 use Rattle.birth_board.proofs.PlacementLemmas.{placements_number}
-use Rattle.world_laws.proofs.Mirror.{People, between, seen_in, Tells}
+use Rattle.world_laws.proofs.Mirror.{between, seen_in, Tells}
 use Rattle.world_laws.proofs.Scenes.{Each, IsScene}
 use Rattle.world_laws.proofs.UpdateLines.{IsWhat, IsEvent}
 use Rattle.world_laws.proofs.Updates.{IsWorld, people_after, world_left, scene_begun, begun_is, seen_begun, AreTurns, scene_last, lives_tell}

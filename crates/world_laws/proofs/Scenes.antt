@@ -1,9 +1,9 @@
 -- What holds of a world within an update, and stays so as organisms leave it and come into it.
 use Rattle.std.proofs.Common.{◌≡◌, ◌≢◌, ℕ, ◌+◌, ◌<◌, ◌≤◌, List, [], ◌∷◌, ◌++◌, map, length, drop, Option, Some, None, refl, sym, ap, ◌∙◌, arith, length-append, ◌⊎◌, inl, inr}
 use Rattle.std.specs.Prelude.{slice_get, slice_set, slice_index_or}
-use Rattle.world_laws.proofs.Prelude.{option_to_list, drop-append-le, length-set, length-map, length-drop, map-append, append_assoc, append-nil, slice_get_within, cases_eq, Letter, OrganismState, Link, get_other, Occupant, id_of, id_at, Scene, standing_at, with_death, with_newcomer}
-use Rattle.world_laws.proofs.ListLemmas.{get_written, get_emptied, get_more, get_seam, get_last, set_nothing, got_some}
-use Rattle.world_laws.proofs.Mirror.{People, written, people_in, genomes_of}
+use Rattle.world_laws.proofs.Prelude.{option_to_list, drop-append-le, length-set, length-map, length-drop, map-append, append_assoc, append-nil, slice_get_within, cases_eq, Letter, OrganismState, Link, get_other, Occupant, id_of, id_at, Scene, standing_at, with_death, with_newcomer, People, get_more, get_seam, get_pushed, genomes_ever}
+use Rattle.world_laws.proofs.ListLemmas.{get_written, get_emptied, set_nothing, got_some}
+use Rattle.world_laws.proofs.Mirror.{written, people_in}
 
 -- somebody stands in a cell
 abbrev pub Stands : List (Option Occupant) → ℕ → Occupant → Type 0
@@ -31,7 +31,8 @@ Below ids end = (place id : ℕ) → slice_get ids place ≡ Some id → id < en
 -- the genomes by id are those of the links
 abbrev pub Agree : People → List Link → Type 0
 Agree genomes everyone = (id : ℕ) (letters : List Letter)
-    → slice_get genomes id ≡ Some (Some letters) → slice_get (genomes_of everyone) id ≡ Some letters
+    → slice_get genomes id ≡ Some (Some letters)
+    → slice_get (genomes_ever everyone) id ≡ Some letters
 
 -- what holds of each organism
 abbrev pub Each : (OrganismState → Type 0) → List (Option Occupant) → Type 0
@@ -129,7 +130,8 @@ pub gone_more : (gone : List ℕ) (slot : Option ℕ) (place id : ℕ)
     ⊎ (slot ≡ Some id)
 gone_more gone None place id h = inl (rw (append-nil gone) at h)
 gone_more gone (Some x) place id h =
-    elim (get_last gone x place id h) [ inl before ↦ inl before | inr last ↦ inr (ap Some last) ]
+    elim (get_pushed gone x id place h)
+    [ inl before ↦ inl before | inr last ↦ inr (ap Some last.1) ]
 
 module _ (size : ℕ) (start : People) (scene : Scene) (is : IsScene size start scene) where
   -- ids in cells are below the next id
@@ -206,7 +208,7 @@ module _ (size : ℕ) (start : People) (scene : Scene) (is : IsScene size start 
         ];
         below = λ place id h. omega (arith, below_more link.cell place id h, grown);
         agree = λ id letters h. rw (map-append (λ (l : Link). l.genome) scene.everyone (link ∷ []))
-            (get_more (genomes_of scene.everyone) (link.genome ∷ []) id letters
+            (get_more (genomes_ever scene.everyone) (link.genome ∷ []) id letters
             (is.agree id letters h));
       }
 

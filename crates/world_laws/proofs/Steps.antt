@@ -1,13 +1,13 @@
 -- One line at a time: each takes the reader from the scene before it to the scene after it.
 use Rattle.std.proofs.Common.{◌≡◌, ℕ, ◌+◌, ◌<◌, ◌≤◌, true, List, [], ◌∷◌, ◌++◌, map, length, drop, Option, Some, None, Result, Ok, refl, sym, ap, ◌∙◌, arith}
 use Rattle.std.specs.Prelude.{slice_get, slice_set, ◌==◌, nat_lt}
-use Rattle.world_laws.proofs.Prelude.{map-set, map-append, slice_get-get_or, slice_get-map, slice_get_within, nat_tests, Letter, BirthRecord, child_of, Death, Birth, Injected, Cleared, Rate, Stage, Dying, Happening, holds, Reader, may_die, may_be_born, parent_in, LogPlace, Within, told_death, told_birth, told_injected, told_cleared, told_rate, Link, OrganismState, Occupant, id_of, ids_of, id_at, Scene, standing_at, with_death, with_newcomer}
+use Rattle.world_laws.proofs.Prelude.{map-set, map-append, slice_get-get_or, slice_get-map, slice_get_within, nat_tests, Letter, BirthRecord, child_of, Death, Birth, Injected, Cleared, Rate, Stage, Dying, Happening, holds, Reader, may_die, may_be_born, parent_in, LogPlace, Within, told_death, told_birth, told_injected, told_cleared, told_rate, Link, OrganismState, Occupant, id_of, ids_of, id_at, Scene, standing_at, with_death, with_newcomer, People, get_more}
 use Rattle.mutations.specs.declared.rate_name.RateName.{RateName}
 use Rattle.lineage_log.specs.declared.reason.Reason.{Reason}
 use Rattle.lineage_log.specs.declared.stage.Stage.TheVariants.{Placing}
 use Rattle.lineage_log.specs.Reader as reader
-use Rattle.world_laws.proofs.ListLemmas.{get_more, eqb_same}
-use Rattle.world_laws.proofs.Mirror.{People, written, people_in, mirror, seen_in, Passes, one_line}
+use Rattle.world_laws.proofs.ListLemmas.{eqb_same}
+use Rattle.world_laws.proofs.Mirror.{written, people_in, mirror, seen_in, Passes, one_line}
 use Rattle.world_laws.proofs.Scenes.{who_stands, people_number, people_grown}
 
 -- the answer that the log goes on, with this reader

@@ -1,12 +1,11 @@
 -- Who comes and who goes, from the lives of an update to its last event.
 use Rattle.std.proofs.Common.{◌≡◌, ◌⊎◌, inl, inr, ◌∙◌, refl, sym, ap, subst, unwrap_or, ℕ, ◌+◌, ◌<◌, ◌≤◌, true, List, [], ◌∷◌, ◌++◌, length, drop, fold, Option, Some, None, arith, length-append, eqb-true}
 use Rattle.std.specs.Prelude.{nat_eq, slice_get, slice_set, option_map}
-use Rattle.world_laws.proofs.Prelude.{AllByRecursion, IsDistinct, list_any, option_to_list, cases_eq, cases_lt, false_from_ne_true, append-nil, append_assoc, drop-append-le, drop_all, get_or_from_slice_get, slice_get-get_or, slice_get-map, slice_get_within, Placing, OrganismState, new_organism, Link, get_other, EventValue, WhatValue, inject, clear, rate, ConfigValues, Occupant, World, founder_link, founder_of, id_of, ids_of, Scene, cells_from, next_id, standing_at, with_death, with_deaths, with_newcomer, slice_at, Delivery, after_births, after_burials, after_event, after_events, after_what, birth_link, births_of, child_of_birth, deaths_of, events_at, last_scene, lives_after, next_scene, placings_of, scene_of_lives, turns_of, with_newborn, world_after, HasBeen, HasGone, IsStanding, IsTurnover, LifeLaws, IsConfig, size_of}
+use Rattle.world_laws.proofs.Prelude.{AllByRecursion, IsDistinct, list_any, option_to_list, cases_eq, cases_lt, false_from_ne_true, append-nil, append_assoc, drop-append-le, drop_all, get_or_from_slice_get, slice_get-get_or, slice_get-map, slice_get_within, Placing, OrganismState, new_organism, Link, get_other, EventValue, WhatValue, inject, clear, rate, ConfigValues, Occupant, World, founder_link, founder_of, id_of, ids_of, Scene, cells_from, next_id, standing_at, with_death, with_deaths, with_newcomer, slice_at, Delivery, after_births, after_burials, after_event, after_events, after_what, birth_link, births_of, child_of_birth, deaths_of, events_at, last_scene, lives_after, next_scene, placings_of, scene_of_lives, turns_of, with_newborn, world_after, HasBeen, HasGone, IsStanding, IsTurnover, LifeLaws, IsConfig, size_of, People, get_more, get_seam, get_pushed}
 use Rattle.std.specs.Cmp.{nat_eq_equiv}
 use Rattle.std.proofs.lemmas.List.Folds.{Any-from_list_any}
 use Rattle.std.proofs.lemmas.Map.Keys.{IsDistinct-push}
-use Rattle.world_laws.proofs.ListLemmas.{get_emptied, get_written, get_last, get_more, get_seam}
-use Rattle.world_laws.proofs.Mirror.{People}
+use Rattle.world_laws.proofs.ListLemmas.{get_emptied, get_written}
 use Rattle.world_laws.proofs.Scenes.{IsScene, Stands, gone_more, scene_death, scene_newcomer, stands_with, who_stands}
 use Rattle.world_laws.proofs.UpdateLines.{IsEvent, IsTurn, IsWhat, scene_birth, scene_births, scene_deaths, scene_what}
 use Rattle.world_laws.proofs.AfterLives.{folk_kept, left_by}
@@ -181,9 +180,9 @@ module _ (cells : List (Option Occupant)) (before : List Link) (size : ℕ) (sta
         apart = λ id stands there. (scene_newcomer size start scene is link organism next same).gone
             stands.0 there.0 stands.1 stands.2 (there.1 ∙ ap (λ (n : ℕ). Some n) (sym stands.3));
         parents = λ place parent other low there e.
-            elim (get_last scene.everyone link place other there) [
+            elim (get_pushed scene.everyone link other place there) [
               | inl before ↦ t.parents place parent other low before e
-              | inr last ↦ parents parent (rw last e)
+              | inr last ↦ parents parent (rw (last.1) e)
             ];
       }
 

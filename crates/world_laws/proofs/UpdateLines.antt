@@ -1,10 +1,10 @@
 -- All deaths of age, all births and all events of an update, line after line.
 use Rattle.std.proofs.Common.{add-zero, ◌≡◌, ℕ, zero, suc, ◌+◌, ◌<◌, ◌≤◌, Bool, true, List, [], ◌∷◌, length, Option, Some, None, Ok, refl, arith, inl, inr}
 use Rattle.std.specs.Prelude.{slice_get, option_map, filter, fold}
-use Rattle.world_laws.proofs.Prelude.{filter_map, cons_option, scan, range_with_len, AllByRecursion, flat_map, cases_Bool, nat_tests, Letter, Placing, child_of, Line, Death, Cleared, Stage, may_die, may_be_born, Link, new_organism, EventValue, WhatValue, inject, clear, rate, ConfigValues, founder_of, founder_link, Scene, next_id, standing_at, with_death, with_deaths, cells_from, Delivery, birth_link, child_of_birth, with_newborn, after_what, after_event, death_lines, birth_line, cleared_line, what_lines, lines_of_event}
+use Rattle.world_laws.proofs.Prelude.{filter_map, cons_option, scan, range_with_len, AllByRecursion, flat_map, cases_Bool, nat_tests, Letter, Placing, child_of, Line, Death, Cleared, Stage, may_die, may_be_born, Link, new_organism, EventValue, WhatValue, inject, clear, rate, ConfigValues, founder_of, founder_link, Scene, next_id, standing_at, with_death, with_deaths, cells_from, Delivery, birth_link, child_of_birth, with_newborn, after_what, after_event, death_lines, birth_line, cleared_line, what_lines, lines_of_event, People}
 use Rattle.lineage_log.specs.declared.stage.Stage.TheVariants.{Dying, Placing as Placed, Happening}
 use Rattle.world_laws.proofs.ListLemmas.{fold-keeps}
-use Rattle.world_laws.proofs.Mirror.{People, Passes, no_lines, more_lines}
+use Rattle.world_laws.proofs.Mirror.{Passes, no_lines, more_lines}
 use Rattle.world_laws.proofs.Scenes.{IsScene, no_death, scene_death, scene_newcomer}
 use Rattle.world_laws.proofs.Steps.{one_death, one_cleared, one_rate, one_injected, one_birth}
 

@@ -1,11 +1,12 @@
 -- The lines of an update take the reader from one world to the next.
 use Rattle.std.proofs.Common.{◌≡◌, ℕ, suc, ◌+◌, ◌-◌, ◌≤◌, true, List, [], ◌∷◌, ◌++◌, map, length, drop, Option, Some, None, Ok, refl, sym, ap, ◌∙◌, arith, inl, inr}
 use Rattle.std.specs.Prelude.{slice_get, slice_set, option_map}
-use Rattle.world_laws.proofs.Prelude.{AllByRecursion, length-set, length-map, append-nil, drop_all, cases_lt, slice_get-map, Letter, Count, Stage, Quiet, taken, may_be_born, Within, told_count, at_next_update, without, get_other, Link, ConfigValues, Occupant, World, id_of, ids_of, Scene, CellLife, scene_stats, stats_in, after_lives, deaths_of, after_burials, births_of, turns_of, after_births, events_at, after_events, last_scene, death_lines, birth_lines, event_lines, lines_of_lives}
-use Rattle.world_laws.proofs.ListLemmas.{get_emptied, get_left, get_right, get_dropped, eqb_same}
-use Rattle.world_laws.proofs.Mirror.{People, written, people_in, genomes_of, mirror, between, seen_in, Tells, one_line, more_lines}
+use Rattle.world_laws.proofs.Prelude.{AllByRecursion, length-map, append-nil, drop_all, cases_lt, slice_get-map, Letter, Count, Stage, Quiet, taken, may_be_born, Within, told_count, at_next_update, without, get_other, Link, ConfigValues, Occupant, World, id_of, ids_of, Scene, CellLife, scene_stats, stats_in, after_lives, deaths_of, after_burials, births_of, turns_of, after_births, events_at, after_events, last_scene, death_lines, birth_lines, event_lines, lines_of_lives, People, genomes_ever}
+use Rattle.world_laws.proofs.ListLemmas.{get_left, get_right, get_dropped, eqb_same}
+use Rattle.world_laws.proofs.Mirror.{written, people_in, mirror, between, seen_in, Tells, one_line, more_lines}
 use Rattle.world_laws.proofs.Scenes.{Stands, Known, Apart, Agree, IsScene, people_number}
 use Rattle.world_laws.proofs.UpdateLines.{rising_part, ToBirths, ToEvents, scene_deaths, all_deaths, IsTurn, scene_births, all_births, IsEvent, scene_events, all_events}
+use Rattle.lineage_log.proofs.StandingLemmas.{kept_before, length_without}
 
 -- those who stay keep their genomes
 without_others : (ids : List ℕ) (people : People) (id : ℕ)
@@ -15,20 +16,6 @@ without_others [] people id h = refl
 without_others (x ∷ ids) people id h =
     without_others ids (slice_set people x None) id
     (λ place e. h (suc place) e) ∙ get_other people x id None (λ e. h 0 (ap Some (sym e)))
-
--- who is forgotten was known before
-without_fewer : (ids : List ℕ) (people : People) (id : ℕ) (letters : List Letter)
-    → slice_get (without ids people) id ≡ Some (Some letters)
-    → slice_get people id ≡ Some (Some letters)
-without_fewer [] people id letters h = h
-without_fewer (x ∷ ids) people id letters h =
-    (get_emptied people id x letters (without_fewer ids (slice_set people x None) id letters h)).0
-
--- people without some ids have as many places as before
-length-without : (ids : List ℕ) (people : People) → length (without ids people) ≡ length people
-length-without [] people = refl
-length-without (x ∷ ids) people =
-    length-without ids (slice_set people x None) ∙ length-set people x None
 
 -- a link that was written, with its genome
 pub written_there : (slot : Option Link) (letters : List Letter)
@@ -41,7 +28,7 @@ written_there (Some link) letters e = (link, refl, cc)
 agree_in : (start : People) (everyone : List Link) (id : ℕ) (letters : List Letter)
     → Agree start everyone → length start ≤ length everyone
     → slice_get (people_in start everyone) id ≡ Some (Some letters)
-    → slice_get (genomes_of everyone) id ≡ Some letters
+    → slice_get (genomes_ever everyone) id ≡ Some letters
 agree_in start everyone id letters agree grown h = elim (cases_lt id (length start)) [
   | inl low ↦ agree id letters
       (sym (get_left start (map written (drop (length start) everyone)) id low) ∙ h)
@@ -88,7 +75,7 @@ renewed_is : (start : People) (stage : Stage) (births : ℕ) (scene : Scene)
     → at_next_update (mirror start stage births scene)
     ≡ between (people_after start scene) (scene.update + 1) scene.cells
 renewed_is start stage births scene =
-    rw (length-without scene.gone (people_in start scene.everyone)) refl
+    rw (length_without scene.gone (people_in start scene.everyone)) refl
 
 -- what is counted ends an update
 pub count_tells : (start : People) (stage : Stage) (births : ℕ) (scene : Scene)
@@ -105,14 +92,14 @@ pub world_left : (size : ℕ) (start : People) (scene : Scene) → IsScene size 
     → IsWorld size (people_after start scene) scene.cells scene.everyone
 world_left size start scene is = record {
   sized = is.sized;
-  number = length-without scene.gone (people_in start scene.everyone)
+  number = length_without scene.gone (people_in start scene.everyone)
       ∙ people_number start scene.everyone is.grown;
   known = λ cell o h. without_others scene.gone (people_in start scene.everyone) o.id
       (λ place e. is.gone cell place o h e) ∙ is.known cell o h;
   kept = is.kept;
   apart = is.apart;
   agree = λ id letters h. agree_in start scene.everyone id letters is.agree is.grown
-      (without_fewer scene.gone (people_in start scene.everyone) id letters h);
+      (kept_before scene.gone (people_in start scene.everyone) id letters h);
 }
 
 -- the genomes as an update begins

@@ -1,14 +1,14 @@
 -- The whole log of a run: its lines in order, from the first to the last, and what they replay to.
 use Rattle.std.proofs.Common.{add-one, ◌≡◌, ℕ, zero, suc, ◌+◌, ◌*◌, ◌<◌, ◌≤◌, true, List, [], ◌∷◌, ◌++◌, map, Option, Some, None, Ok, refl, sym, ap, ◌∙◌, arith, inl, inr}
 use Rattle.std.specs.Prelude.{replicate, slice_get, slice_set, option_map, unwrap_or, nat_lt, ◌==◌}
-use Rattle.world_laws.proofs.Prelude.{AllByRecursion, filter_map, enumerate_from, map-set, length-set, length-replicate, slice_get-map, nat_tests, Letter, Line, End, LogPlace, Before, Within, After, IsWhole, told_start, told_end, told_all, Seen, seen_on, residents_from, replay_of, Link, new_organism, ConfigValues, Occupant, ids_of, founder_of, founder_link, empty_cells, first_occupant, first_world, next_scene, world_after, resident_of, residents_of_world, update_lines, head_line, LifeLaws, IsConfig, size_of}
+use Rattle.world_laws.proofs.Prelude.{AllByRecursion, filter_map, enumerate_from, map-set, length-set, length-replicate, slice_get-map, nat_tests, Letter, Line, End, LogPlace, Before, Within, After, IsWhole, told_start, told_end, told_all, Seen, seen_on, residents_from, replay_of, Link, new_organism, ConfigValues, Occupant, ids_of, founder_of, founder_link, empty_cells, first_occupant, first_world, next_scene, world_after, resident_of, residents_of_world, update_lines, head_line, LifeLaws, IsConfig, size_of, all_append, People, genomes_ever}
 use Rattle.world_laws.proofs.ListLemmas.{map-replicate, eqb_same}
-use Rattle.world_laws.proofs.Mirror.{People, written, genomes_of, between, seen_in, Tells, one_line, more_lines, no_lines}
+use Rattle.world_laws.proofs.Mirror.{written, between, seen_in, Tells, one_line, more_lines, no_lines}
 use Rattle.world_laws.proofs.Scenes.{Stands, Known, Agree, stands_with}
-use Rattle.world_laws.proofs.Placements.{all_append}
 use Rattle.world_laws.proofs.Updates.{written_there, people_after}
 use Rattle.world_laws.proofs.Sounds.{sound_founder}
 use Rattle.world_laws.proofs.Runs.{IsRun, update_tells, run_next}
+use Rattle.lineage_log.proofs.ReplayLemmas.{nobody}
 
 -- the lines of so many updates
 abbrev pub updates_lines : ConfigValues → ℕ → List Line
@@ -63,7 +63,7 @@ founder_agrees config (suc id) letters h = absurd cc
 -- a genome by its id, as a replay finds it
 found_genome : (everyone : List Link) (id : ℕ) (letters : List Letter)
     → slice_get (map written everyone) id ≡ Some (Some letters)
-    → unwrap_or (slice_get (genomes_of everyone) id) [] ≡ letters
+    → unwrap_or (slice_get (genomes_ever everyone) id) [] ≡ letters
 found_genome everyone id letters h =
     let found = written_there (slice_get everyone id) letters
     (sym (slice_get-map written everyone id) ∙ h) in
@@ -72,7 +72,7 @@ found_genome everyone id letters h =
 -- who stands by the ids and the genomes by id is who lives
 same_living : (from : ℕ) (cells : List (Option Occupant)) (everyone : List Link)
     → Known (map written everyone) cells
-    → residents_from from (ids_of cells) (genomes_of everyone)
+    → residents_from from (ids_of cells) (genomes_ever everyone)
     ≡ filter_map (λ place. option_map (resident_of place.0) place.1) (enumerate_from from cells)
 same_living from [] everyone known = refl
 same_living from (None ∷ cells) everyone known =
@@ -168,10 +168,6 @@ module _ (laws : LifeLaws) (config : ConfigValues) (fit : IsConfig config) where
   unfolding told_end
   end_told n = let test : (n + 1 == (world_after config n).update + 1) ≡ true =
       rw (run_after n).update (eqb_same (n + 1)) in rw test refl
-
-  -- what a replay has seen before the first line
-  abbrev nobody : Seen
-  nobody = record { standing = []; genomes = [] }
 
   -- all lines of a run
   run_tells : (n : ℕ) → Tells Before nobody (run_lines config n)

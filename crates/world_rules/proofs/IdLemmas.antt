@@ -1,6 +1,6 @@
 -- The ids of a world, through an update.
-use Rattle.std.proofs.Common.{◌≡◌, refl, sym, ap, ℕ, zero, suc, ◌+◌, ◌*◌, ◌<◌, ◌≤◌, List, [], ◌∷◌, ◌++◌, length, map, fold, replicate, Option, None, Some, arith, ◌⊎◌, inl, inr, length-append}
-use Rattle.std.specs.Prelude.{All, slice_get, slice_index_or}
+use Rattle.std.proofs.Common.{◌≡◌, refl, sym, ap, ℕ, zero, suc, ◌+◌, ◌*◌, ◌<◌, ◌≤◌, List, [], ◌∷◌, ◌++◌, length, map, fold, replicate, Option, None, Some, arith, inl, inr, length-append}
+use Rattle.std.specs.Prelude.{All, slice_index_or}
 use Rattle.world_rules.proofs.Prelude.{AllByRecursion, zip, flat_map, enumerate_from, range_with_len, Placing, OrganismState, life_by, Link, Occupant, World, id_of, founder_of, founder_link, first_world, Scene, next_id, with_death, cells_from, with_newcomer, CellLife, life_of, life_at, slice_at, lives_of, Delivery, delivery_of, births_by, births_in, births_of, deaths_of, after_lives, after_burials, placings_of, birth_link, child_of_birth, with_newborn, turns_of, after_births, after_what, after_event, events_at, after_events, last_scene, scene_of_lives, lives_after, next_scene, next_world, world_of, world_after, IsBelow, HasPlaceAsId, AreNumbered, IsNumberedWorld}
 use Rattle.std.proofs.lemmas.Bool.{cases_lt}
 use Rattle.std.proofs.lemmas.List.{get_or_past}
@@ -8,6 +8,8 @@ use Rattle.std.proofs.lemmas.List.Elements.{All-map, All-set, All-weaker, All-re
 use Rattle.organism.specs.Newborns.{NewbornValue}
 use Rattle.world_config.specs.Events.{EventValue, WhatValue, inject, clear, rate}
 use Rattle.world_config.specs.Values.{ConfigValues}
+use Rattle.genome.proofs.ListLemmas.{all_append}
+use Rattle.lineage_log.proofs.StandingLemmas.{get_pushed}
 
 -- a scene's ids are places
 abbrev IsNumberedScene : Scene → Type 0
@@ -18,22 +20,13 @@ below_more : (few many : ℕ) (id : Option ℕ) → few ≤ many → IsBelow few
 below_more few many None more below = tt
 below_more few many (Some id) more below = omega (arith, more, below)
 
--- what stands in a list with one item more
-get_last : {X : Type 0} (xs : List X) (x : X) (i : ℕ) (y : X) → slice_get (xs ++ x ∷ []) i ≡ Some y
-    → (slice_get xs i ≡ Some y) ⊎ ((length xs ≡ i) × (x ≡ y))
-get_last [] x zero y h = inr (refl, cc)
-get_last [] x (suc i) y h = absurd cc
-get_last (z ∷ xs) x zero y h = inl h
-get_last (z ∷ xs) x (suc i) y h =
-    elim (get_last xs x i y h) [ inl before ↦ inl before | inr last ↦ inr (ap suc last.0, last.1) ]
-
 -- with one more that has its place as its id, each still has
 numbered_more : (everyone : List Link) (link : Link) → AreNumbered everyone
     → HasPlaceAsId (length everyone) link → AreNumbered (everyone ++ link ∷ [])
 numbered_more everyone link are is place other there =
-    elim (get_last everyone link place other there) [
+    elim (get_pushed everyone link other place there) [
       | inl before ↦ are place other before
-      | inr last ↦ rw (sym last.0, sym last.1) is
+      | inr last ↦ rw (last.0, sym last.1) is
     ]
 
 -- after a death a scene's ids are places still
@@ -54,7 +47,7 @@ numbered_deaths scene (cell ∷ cells) is =
     numbered_deaths (with_death scene cell) cells (numbered_death scene cell is)
 
 -- deaths leave the list of all as it is
-deaths_keep : (scene : Scene) (cells : List ℕ)
+pub deaths_keep : (scene : Scene) (cells : List ℕ)
     → (fold with_death scene cells).everyone ≡ scene.everyone
 unfolding with_death
 deaths_keep scene [] = refl
@@ -164,12 +157,6 @@ lives_among config count update cells among =
     (λ k d within. let cell = slice_index_or (range_with_len 0 (length cells)) k d in
     among_life config count update cell (slice_at config cells cell)
     (slice_index_or cells cell None) (slot_among count cells cell among))
-
--- what holds of all of two lists holds of all of one behind the other
-all_append : {X : Type 0} (P : X → Type 0) (xs ys : List X) → AllByRecursion P xs
-    → AllByRecursion P ys → AllByRecursion P (xs ++ ys)
-all_append P [] ys first rest = rest
-all_append P (x ∷ xs) ys first rest = (first.0, all_append P xs ys first.1 rest)
 
 -- where a parent is one of so many, so is that of each of its newborns
 deliveries_of : (count cell parent : ℕ) (newborns : List NewbornValue) → parent < count

@@ -1,4 +1,5 @@
 pub mod Prelude
-mod IdLemmas
+pub mod IdLemmas
+pub mod Updates
 mod LineLemmas
 mod TinyPlacings

@@ -73,6 +73,10 @@ pub record Scene : Type 0 where
   pub everyone : List Link
   pub gone : List ℕ
 
+-- the genomes of these organisms at birth, in their order
+abbrev pub genomes_ever : List Link → List (List Letter)
+genomes_ever everyone = map (λ link. link.genome) everyone
+
 -- the next id
 abbrev pub next_id : Scene → ℕ
 next_id scene = length scene.everyone

@@ -1,7 +1,7 @@
 -- Organisms that stand in a list at their ids.
 use Rattle.std.proofs.Common.{◌≡◌, ◌≢◌, ◌∙◌, sym, ap, subst, ℕ, zero, suc, ◌<◌, Bool, true, false, cond, eqb, List, [], ◌∷◌, length, take, drop, get_or, Some, None, eqb-true, not, arith, inl, inr, eq-eqb, ne_eqb}
 use Rattle.std.specs.Prelude.{Contains, is_some, slice_get}
-use Rattle.world_tree.proofs.Prelude.{cases_Bool, take-append-drop, All-filter, Contains-get_or, filter_passes, get_or_from_slice_get, option_and_then_some, slice_get_within, Link, AreOlder, link_of, without_id, AreNumbered, IsBelow, IsNumberedWorld, World, id_of, IsStanding, get_more}
+use Rattle.world_tree.proofs.Prelude.{cases_Bool, take-append-drop, All-filter, Contains-get_or, filter_passes, get_or_from_slice_get, option_and_then_some, slice_get_within, Link, AreOlder, link_of, without_id, AreNumbered, IsBelow, IsNumberedWorld, World, id_of, IsStanding, get_more, contains_more}
 use Rattle.lineage_log.proofs.AncestorLemmas.{cases_Option}
 use Rattle.lineage_log.proofs.KeptLemmas.{found_at}
 
@@ -63,10 +63,6 @@ standing_low w id is stands =
     omega (arith, low, stands.3)
 
 -- ---- ids in a list
-
--- one more in front
-pub contains_more : (x y : ℕ) (xs : List ℕ) → Contains xs x → Contains (y ∷ xs) x
-contains_more x y xs is = (suc is.0, omega (arith, is.1), is.2)
 
 -- without an id the others are there
 pub without_to : (id x : ℕ) (ids : List ℕ) → Contains ids x → x ≢ id

@@ -1,4 +1,6 @@
 -- What the proofs of this crate cite from outside most often, passed on from one place.
+pub use Rattle.lineage_log.proofs.LivingLemmas.{contains_more}
+pub use Rattle.lineage_log.proofs.StandingLemmas.{get_more}
 pub use Rattle.lineage_log.specs.Ancestry.{AreOlder, CanCome, Link, TreeValue, founded_by, is_kept, line_of_descent, link_of, tree_with_death, tree_with_newcomer, without_id}
 unfoldable pub use Rattle.lineage_log.specs.Ancestry.{kept_of}
 pub use Rattle.std.proofs.lemmas.Bool.{cases_Bool, cases_lt}
@@ -7,7 +9,7 @@ pub use Rattle.std.proofs.lemmas.List.Elements.{All-filter, Contains-append_left
 pub use Rattle.std.proofs.lemmas.Option.{get_or_from_slice_get, option_and_then_some, slice_get-get_or, slice_get_within}
 pub use Rattle.world_config.specs.Shown.{values_of}
 pub use Rattle.world_config.specs.Values.{ConfigValues}
-pub use Rattle.world_laws.proofs.ListLemmas.{get_dropped, get_left, get_more, get_written}
+pub use Rattle.world_laws.proofs.ListLemmas.{get_dropped, get_left, get_written}
 pub use Rattle.world_laws.specs.Turnover.{HasBeen, HasGone, IsStanding, IsTurnover}
 pub use Rattle.world_rules.specs.Descent.{AreNumbered, IsBelow, IsNumberedWorld, descent_line_of, descent_lines_of, line_of_parent}
 pub use Rattle.world_rules.specs.Update.{world_of}

@@ -1,11 +1,11 @@
 -- What the tree of a world shows of it.
 use Rattle.std.proofs.Common.{◌≡◌, ◌↔◌, ◌∙◌, refl, sym, ap, subst, ℕ, zero, suc, ◌+◌, ◌*◌, ◌<◌, List, [], ◌∷◌, ◌++◌, length, get_or, Option, Some, None, Result, Ok, Err, arith}
 use Rattle.std.specs.Prelude.{Contains, IfOk, filter_map, slice_get, slice_set}
-use Rattle.world_tree.proofs.Prelude.{length-replicate, slice_get-get_or, Link, AreOlder, kept_of, link_of, TreeValue, founded_by, ConfigValues, AreNumbered, IsBelow, IsNumberedWorld, descent_line_of, descent_lines_of, line_of_parent, Occupant, World, empty_cells, first_occupant, first_world, founder_link, id_of, world_after, IsStanding, IsTreeOf, living_and_ancestors, get_written}
+use Rattle.world_tree.proofs.Prelude.{length-replicate, slice_get-get_or, Link, AreOlder, kept_of, link_of, TreeValue, founded_by, ConfigValues, AreNumbered, IsBelow, IsNumberedWorld, descent_line_of, descent_lines_of, line_of_parent, Occupant, World, empty_cells, first_occupant, first_world, founder_link, id_of, world_after, IsStanding, IsTreeOf, living_and_ancestors, get_written, contains_more}
 use Rattle.std.specs.Option.{option_map_or}
 use Rattle.lineage_log.specs.Ancestry as tree
 use Rattle.world_laws.proofs.WholeLogs.{only_founder}
-use Rattle.world_tree.proofs.NumberLemmas.{contains_more, link_at, older_of, standing_low}
+use Rattle.world_tree.proofs.NumberLemmas.{link_at, older_of, standing_low}
 use Rattle.world_tree.proofs.EnterLemmas.{KeepingLaws}
 
 -- ---- the founder's world

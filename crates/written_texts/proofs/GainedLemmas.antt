@@ -1,7 +1,8 @@
 -- How what a sink gained adds up.
 use Rattle.std.proofs.Common.{◌≡◌, ◌≤◌, Option, ℕ, List, [], ◌++◌, None, Some, refl, sym, ap, ◌∙◌, append_assoc, append-nil, arith}
 use Rattle.std.specs.Io.KnownBytes.{append_known}
-use Rattle.avida_port.specs.Ports.{Rose, SinkState, GainedPrefix, IsPrefixOf}
+use Rattle.avida_port.specs.Ports.{Rose, SinkState, GainedPrefix}
+use Rattle.avida_port.proofs.PortLemmas.{Grew}
 use Rattle.written_texts.specs.SinkChanges.{Change, GainedFront, Stays}
 
 -- no text leaves what is held
@@ -20,13 +21,9 @@ pub gained_then : (a b c : Option (List ℕ)) (xs ys : List ℕ) → b ≡ appen
     → c ≡ append_known b ys → c ≡ append_known a (xs ++ ys)
 gained_then a b c xs ys p q = q ∙ ap (λ h. append_known h ys) p ∙ append_known-append a xs ys
 
--- a prefix of a text came behind what was held, by what is held alone
-abbrev pub GainedFrontOf : Option (List ℕ) → Option (List ℕ) → List ℕ → Type 0
-GainedFrontOf a b text = (part : List ℕ) × IsPrefixOf part text × (b ≡ append_known a part)
-
 -- a text, and a prefix of a text after it
 pub front_then : (a b c : Option (List ℕ)) (xs ys : List ℕ) → b ≡ append_known a xs
-    → GainedFrontOf b c ys → GainedFrontOf a c (xs ++ ys)
+    → Grew b c ys → Grew a c (xs ++ ys)
 front_then a b c xs ys p q = (
   xs ++ q.0,
   (q.1.0, append_assoc xs q.0 q.1.0 ∙ ap (λ l. xs ++ l) q.1.1),
@@ -34,8 +31,8 @@ front_then a b c xs ys p q = (
 )
 
 -- a prefix of a text is one of a longer text
-pub front_short : (a b : Option (List ℕ)) (xs ys : List ℕ) → GainedFrontOf a b xs
-    → GainedFrontOf a b (xs ++ ys)
+pub front_short : (a b : Option (List ℕ)) (xs ys : List ℕ) → Grew a b xs
+    → Grew a b (xs ++ ys)
 front_short a b xs ys q =
     (q.0, (q.1.0 ++ ys, sym (append_assoc q.0 q.1.0 ys) ∙ ap (λ l. l ++ ys) q.1.1), q.2)
 

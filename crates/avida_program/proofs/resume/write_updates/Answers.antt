@@ -1,6 +1,6 @@
 use Rattle.std.proofs.Common.{◌≡◌, ◌<◌, ◌+◌, ◌∙◌, ap, arith, sym}
-use Rattle.avida_program.proofs.Prelude.{err_from_is_err_and, next_state, SavedState, writes_nothing, writes_same}
-use Rattle.avida_program.proofs.ResumeLemmas.{next_state_update, next_stopped, next_written, state_begun, state_next}
+use Rattle.avida_program.proofs.Prelude.{err_from_is_err_and, next_state, SavedState, writes_nothing, writes_same, next_state_update}
+use Rattle.avida_program.proofs.ResumeLemmas.{next_stopped, next_written, state_begun, state_next}
 use Rattle.avida_program.proofs.resume.write_updates.Goals as goal
 
 pub loop-init : goal.loop-init

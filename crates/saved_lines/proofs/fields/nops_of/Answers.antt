@@ -1,7 +1,8 @@
 use Rattle.std.proofs.Common.{◌≡◌, ◌∙◌, ◌+◌, ◌<◌, ◌∷◌, ◌++◌, [], List, Some, true, drop, get_or, length, length-append, inl, inr, sym, ap, arith}
 use Rattle.saved_lines.proofs.Prelude.{list_all, Letter, letter_of_byte, is_nop}
-use Rattle.saved_lines.proofs.NopLemmas.{all_more, nop_on, nops_behind, noted, too_few_or_many}
+use Rattle.saved_lines.proofs.NopLemmas.{all_more, nop_on, nops_behind, too_few_or_many}
 use Rattle.saved_lines.proofs.fields.nops_of.Goals.{then-count-eq0-via-then-count-eq0, then-count-eq0-via-else-count-eq0+then-count-gt-LONGEST_TEMPLATE}
+use Rattle.label_search.proofs.TemplateLemmas.{nops_read-room}
 use Rattle.saved_lines.proofs.fields.nops_of.Goals as goal
 
 pub returns-then-count-eq0 : goal.returns-then-count-eq0
@@ -23,7 +24,7 @@ loop-byte-preserved c =
     let few : length nops < 10 =
     omega (arith, c.loop-byte.invariant.count, low, c.if-count-gt-LONGEST_TEMPLATE.false) in
     let more : c.note.new.self ≡ nops ++ letter ∷ [] =
-    c.note.ensures.read ∙ noted nops letter few nop in
+    c.note.ensures.read ∙ nops_read-room nops letter nop few in
     record {
       read = ap (λ (l : List Letter). nops_behind l (drop (i + 1) word)) more
           ∙ sym (nop_on word nops i low letter found) ∙ c.loop-byte.invariant.read;

@@ -1,7 +1,7 @@
 use Rattle.std.proofs.Common.{◌∙◌, ap, List, Option}
-use Rattle.world_core.proofs.Prelude.{all_tasks, Occupant, credited_with, genomes_of_cells, stats_in, PopulationValue}
+use Rattle.world_core.proofs.Prelude.{all_tasks, Occupant, credited_with, genomes_of_cells, stats_in, PopulationValue, map_same}
 use Rattle.world_core.proofs.StatLemmas.{living-in, merits-in, credited-in, genotype-number}
-use Rattle.world_core.proofs.SumLemmas.{cells_with, map_alike}
+use Rattle.world_core.proofs.SumLemmas.{cells_with}
 use Rattle.world_core.proofs.population.Population.stats.Goals as goal
 
 pub returns : goal.returns
@@ -16,7 +16,7 @@ returns c =
     kept.genotypes (c.genotypes_are_what_was_interned.ensures.each (genomes_of_cells cells)) in
     let merit = c.merit.ensures ∙ kept.sums.merit_sum ∙ merits-in cells in
     let tasks = c.tasks.ensures ∙ kept.sums.task_counts
-    ∙ map_alike (cells_with cells) (credited_with cells) (credited-in cells) all_tasks in
+    ∙ map_same (cells_with cells) (credited_with cells) (credited-in cells) all_tasks in
     (λ i. record {
       update = c.args.update;
       living = living i;

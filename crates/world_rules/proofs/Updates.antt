@@ -1,7 +1,9 @@
 -- Each world of a run has the number of its update.
 use Rattle.std.proofs.Common.{◌≡◌, ℕ, zero, suc, ◌+◌, List, [], ◌∷◌, refl, ap, ◌∙◌, arith}
 use Rattle.std.specs.Prelude.{fold}
-use Rattle.saved_worlds.proofs.Prelude.{WhatValue, inject, clear, rate, ConfigValues, World, first_world, Scene, with_death, cells_from, with_newcomer, CellLife, with_newborn, deaths_of, after_burials, births_of, turns_of, events_at, after_births, after_what, after_event, after_events, last_scene, scene_of_lives, next_scene, next_world, lives_after, after_lives, world_after}
+use Rattle.world_rules.proofs.Prelude.{World, first_world, Scene, with_death, cells_from, with_newcomer, CellLife, with_newborn, deaths_of, after_burials, births_of, turns_of, events_at, after_births, after_what, after_event, after_events, last_scene, scene_of_lives, world_of, next_scene, next_world, lives_after, after_lives, world_after}
+use Rattle.world_config.specs.Events.{WhatValue, inject, clear, rate}
+use Rattle.world_config.specs.Values.{ConfigValues}
 
 -- what changes scenes one after another keeps the update
 fold_keeps : {X : Type 0} (f : Scene → X → Scene)
@@ -33,11 +35,16 @@ last_keeps config s lives =
     (turns_of config buried (births_of lives))
     ∙ fold_keeps with_death (λ s cell. refl) s (deaths_of lives)
 
+-- the scene that some lives lead to
+pub update_next : (config : ConfigValues) (w : World) (lives : List CellLife)
+    → (world_of (scene_of_lives config w lives)).update ≡ w.update + 1
+unfolding scene_of_lives
+update_next config w lives = last_keeps config (after_lives (w.update + 1) w.everyone lives) lives
+
 -- the next world
 pub next_update : (config : ConfigValues) (w : World) → (next_world config w).update ≡ w.update + 1
-unfolding next_world next_scene scene_of_lives
-next_update config w = last_keeps config
-    (after_lives (w.update + 1) w.everyone (lives_after config w)) (lives_after config w)
+unfolding next_world next_scene
+next_update config w = update_next config w (lives_after config w)
 
 -- a world of a run
 pub update_of : (config : ConfigValues) (n : ℕ) → (world_after config n).update ≡ n
