@@ -11,7 +11,7 @@ use Rattle.world_config.specs.Refusal.{refusal_at}
 use Rattle.world_rules.specs.Statistics.{stats_of}
 use Rattle.logged_run.specs.declared.sums.Sums.{Sums}
 use Rattle.command_line.specs.declared.positional.Bench.{Bench}
-use Rattle.avida_program.specs.declared.command.Command.TheVariants as command
+use Rattle.command_line.specs.declared.command.Command.TheVariants as command
 use Rattle.avida_program.proofs.ReadEnds.{carried, text_caused}
 
 -- the values that a document without keys gives are the defaults

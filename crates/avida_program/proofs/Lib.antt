@@ -1,7 +1,6 @@
 pub mod Prelude
 pub mod TraceLemmas
 pub mod ListTexts
-pub mod RangeLemmas
 pub mod TextEnds
 pub mod ReadEnds
 pub mod ReadInputs

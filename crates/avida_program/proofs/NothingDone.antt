@@ -2,7 +2,7 @@
 use Rattle.std.proofs.Common.{ℕ, Option, None, Some, IfSome, Result, Err, refl, inl, inr}
 use Rattle.avida_program.proofs.Prelude.{ConfigValues, WorldValue, SinkState, SourceState, Command, Refusal, GivenBy, configuration_of, bench_text, Work, Stays, unchanged, Does, Obeys, Watches}
 use Rattle.written_texts.proofs.GainedLemmas.{stays_front}
-use Rattle.avida_program.specs.declared.command.Command.TheVariants.{Run, Lineage, Bench}
+use Rattle.command_line.specs.declared.command.Command.TheVariants.{Run, Lineage, Bench}
 use Rattle.avida_program.specs.declared.call_error.CallError.TheVariants as error
 use Rattle.avida_program.proofs.ReadEnds.{carried}
 

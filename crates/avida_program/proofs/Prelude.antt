@@ -1,7 +1,6 @@
 -- What the proofs of this crate cite from outside most often, passed on from one place.
 pub use Rattle.avida_port.specs.declared.sink.SinkStop.{SinkStop}
-pub use Rattle.avida_program.specs.CommandLine.{command_of, leaves_world, looks_of}
-pub use Rattle.avida_program.specs.Commands.{CarriesOut, Does, Obeys, Reads, ReadsInput, Serves, Watches}
+pub use Rattle.avida_program.specs.Commands.{CarriesOut, Does, Obeys, Reads, ReadsInput, Serves, Watches, leaves_world}
 pub use Rattle.avida_program.specs.Endings.{GivesInput, GivesNoInput, OnBytes, ReadsAndWrites, SourceFailed, TellsOf, Work, WritesText, ended_by, error_at}
 pub use Rattle.avida_program.specs.Input.{GivenBy, IsInputWith, ReadsLines, ReadsState, configuration_of, lineage_input_of, log_input_of, refused_as, resume_input_of, saved_input_of, unless_too_long, with_more}
 pub use Rattle.avida_program.specs.Output.{GainedLogOf, LeavesFinal, advanced_text, bench_text, counts_line, last_lines, lines_of_tree, path_line, path_lines, path_text, resident_line, save_text}
@@ -11,10 +10,11 @@ pub use Rattle.avida_program.specs.SavedRuns.{AddsUp, AdvancesExactly, AdvancesI
 pub use Rattle.avida_program.specs.Status.{Ended, shown_byte, status_of}
 pub use Rattle.avida_program.specs.TraceText.{remark_text, step_text, trace_line, trace_lines}
 pub use Rattle.avida_program.specs.declared.call_error.CallError.{CallError}
-pub use Rattle.avida_program.specs.declared.command.Command.{Command}
 pub use Rattle.avida_program.specs.declared.refusal.Refusal.{Refusal}
 pub use Rattle.avida_program.specs.declared.refusal.Refusal.TheVariants.{Saved, Updates}
 pub use Rattle.checkpoint.specs.Reading.{first_cells_text}
+pub use Rattle.command_line.specs.CommandLine.{command_of, looks_of}
+pub use Rattle.command_line.specs.declared.command.Command.{Command}
 pub use Rattle.command_line.specs.declared.positional.Lineage.{Lineage}
 pub use Rattle.command_line.specs.declared.run.Run.{Run}
 unfoldable pub use Rattle.instruction_set.specs.Letter.{letter_of_byte}

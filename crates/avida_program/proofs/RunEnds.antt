@@ -2,7 +2,7 @@
 use Rattle.std.proofs.Common.{◌≡◌, ◌∙◌, ℕ, List, Option, None, Some, IfSome, Result, Ok, Err, OnErr, OnOk, refl, sym, ap, inl, inr}
 use Rattle.avida_program.proofs.Prelude.{false≢true, Line, ReadsLog, ConfigValues, SinkState, WorldValue, world_in, ReplaysToLiving, residents_of_world, world_after, Lineage, Run, CallError, Refusal, SinkStop, Change, GainedText, Stays, OnBytes, Work, GivesInput, GivesNoInput, ReadsAndWrites, error_at, GivenBy, IsInputWith, configuration_of, lineage_input_of, StopsRun, IsFinalWorld, run_text, GainedLogOf, LeavesFinal, path_text, Ended, CarriesOut, Watches}
 use Rattle.lineage_log.specs.LogGrammar.{Reads}
-use Rattle.avida_program.specs.declared.command.Command.TheVariants as command
+use Rattle.command_line.specs.declared.command.Command.TheVariants as command
 use Rattle.avida_program.specs.declared.call_error.CallError.TheVariants as error
 use Rattle.avida_port.specs.declared.sink.SinkStop.TheVariants as stop
 use Rattle.logged_run.specs.Watching.{GainedPictures}

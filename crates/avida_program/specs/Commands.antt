@@ -1,18 +1,18 @@
 -- What a call of the program reads, writes and leaves, by how it ends (docs/FORMATS.md, "The
 -- command line" and "Statuses and fault lines"). The number of workers changes nothing.
-use Rattle.std.specs.Prelude.{◌≡◌, ◌≢◌, ◌⊎◌, false, ℕ, List, [], Option, None, Some, IfSome, Result, Ok, Err, OnOk, OnErr}
+use Rattle.std.specs.Prelude.{◌≡◌, ◌≢◌, ◌⊎◌, Bool, true, false, ℕ, List, [], Option, None, Some, IfSome, Result, Ok, Err, OnOk, OnErr}
 use Rattle.avida_program.specs.Prelude.{assay_text, landscape_text, tree_text, continued_text, ConfigValues, WorldValue, Change, Stays, SinkFailed, GainedText, GainedFront, SinkState, run_text}
 use Rattle.logged_run.specs.WatchedRun.{PutFailed}
 use Rattle.logged_run.specs.Watching.{GainedPictures, GainedPicturesFront}
-use Rattle.avida_program.specs.declared.command.Command.{Command}
-use Rattle.avida_program.specs.declared.command.Command.TheVariants.{Trace, Run, Lineage, Bench, Assay, Save, Resume, Advance, Replay, Upgrade, Tree, Landscape}
-use Rattle.avida_program.specs.declared.command.Spelling.TheVariants.{Letters}
+use Rattle.command_line.specs.CommandLine.{looks_of, spelling_of}
+use Rattle.command_line.specs.declared.command.Command.{Command}
+use Rattle.command_line.specs.declared.command.Command.TheVariants.{Trace, Run, Lineage, Bench, Assay, Save, Resume, Advance, Replay, Upgrade, Tree, Landscape}
+use Rattle.command_line.specs.declared.command.Spelling.TheVariants.{Letters}
 use Rattle.avida_program.specs.declared.call_error.CallError.TheVariants as error
 use Rattle.avida_program.specs.declared.refusal.Refusal.{Refusal}
 use Rattle.avida_program.specs.declared.status.Status.{Status}
 use Rattle.avida_program.specs.Output.{bench_config, bench_text, path_text, replay_text, upgrade_text, advanced_text, save_text, GainedLogOf, LeavesFinal}
 use Rattle.avida_program.specs.Endings.{OnBytes, SourceFailed, TellsOf, Work, WritesText}
-use Rattle.avida_program.specs.CommandLine.{leaves_world, looks_of, spelling_of}
 use Rattle.avida_program.specs.Input.{GivenBy, IsInputWith, ReadsLines, ReadsState, assay_input_of, configuration_of, genome_of_input, lineage_input_of}
 use Rattle.avida_program.specs.Status.{Ended, status_of}
 use Rattle.avida_program.specs.TraceText.{trace_text}
@@ -99,6 +99,13 @@ Does Upgrade work ended = Reads ReadsLines upgrade_text work ended
 Does Tree work ended = Reads ReadsLines tree_text work ended
 Does (Landscape steps) work ended =
     Reads (GivenBy (genome_of_input Letters)) (λ genome. landscape_text genome steps) work ended
+
+-- a command that leaves the last world of a run
+abbrev pub leaves_world : Command → Bool
+leaves_world (Run run) = true
+leaves_world (Lineage lineage) = true
+leaves_world (Bench bench) = true
+leaves_world _ = false
 
 -- a command is carried out, and ends so
 pub record CarriesOut (command : Command) (work : Work) (ended : Ended) : Type 0 where

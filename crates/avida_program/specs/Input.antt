@@ -5,8 +5,8 @@ use Rattle.std.specs.Prelude.{◌≡◌, ◌*◌, ◌+◌, ℕ, List, Result, Ok
 use Rattle.avida_program.specs.Prelude.{Letter, GenomeStop, Line, ReadsLog, LogStop, SavedState, SavedStop, config_of, ConfigValues, log_of}
 use Rattle.genome.specs.GenomeText.{spelled_by_letters, spelled_by_names}
 use Rattle.saved_worlds.specs.SavedGrammar.{ReadsSaved, saved_of}
-use Rattle.avida_program.specs.declared.command.Spelling.{Spelling}
-use Rattle.avida_program.specs.declared.command.Spelling.TheVariants.{Letters, Names}
+use Rattle.command_line.specs.declared.command.Spelling.{Spelling}
+use Rattle.command_line.specs.declared.command.Spelling.TheVariants.{Letters, Names}
 use Rattle.avida_program.specs.declared.refusal.Refusal.{Refusal}
 use Rattle.avida_program.specs.declared.refusal.Refusal.TheVariants.{TooLong, Genome, Config, Log, Saved, Cell, Cells, Updates}
 

@@ -1,5 +1,4 @@
 pub mod Prelude
-pub mod CommandLine
 pub mod Status
 pub mod TraceText
 pub mod Output

@@ -1,7 +1,7 @@
 // The command `bench`.
 ghost use Rattle.std.specs.Prelude.{◌≡◌, ◌≤◌, ◌<◌, ◌+◌, ◌^◌, ◌++◌, IfOk, OnOk, codes, decimal, length};
 ghost use Rattle.avida_program.specs.Prelude.{SinkState, SourceState, Count, line_text, values_of, end_text, head_text, change, unchanged, IsEndOf, IsFinalWorld};
-ghost use Rattle.avida_program.specs.declared.command.Command.TheVariants as command;
+ghost use Rattle.command_line.specs.declared.command.Command.TheVariants as command;
 ghost use Rattle.avida_program.specs.Output.{bench_config, bench_text, sums_text};
 ghost use Rattle.avida_program.specs.Commands.{CarriesOut};
 

@@ -5,10 +5,10 @@ ghost use Rattle.avida_program.specs.Input.{assay_input_of, configuration_of, ge
 ghost use Rattle.avida_program.specs.Endings.{GivesInput, GivesNoInput, StopsReading};
 
 use crate::call_error::CallError;
-use crate::command::Spelling;
 use crate::refusal::Refusal;
 use avida_port::{LONGEST_INPUT, ReadStop, Source, read_all};
 use checkpoint::{SavedStop, read_saved};
+use command_line::Spelling;
 use genome::{Genome, GenomeStop, read_letters, read_names};
 use lineage_log::{Livings, Log, LogStop, living_at_end, read_log};
 use std::alloc::Global;

@@ -4,7 +4,6 @@
 mod advance;
 mod bench;
 mod call_error;
-mod command;
 mod fault_line;
 mod input;
 pub mod laws;

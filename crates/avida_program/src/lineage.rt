@@ -1,7 +1,7 @@
 // The command `lineage`.
 ghost use Rattle.std.specs.Prelude.{◌≡◌, ◌≤◌, ◌<◌, ◌*◌, ◌++◌, IfOk, OnOk, flat_map, option_map};
 ghost use Rattle.avida_program.specs.Prelude.{SinkState, record_of, values_of, world_in, line_in, change, unchanged, WritesAll, IsFinalWorld};
-ghost use Rattle.avida_program.specs.declared.command.Command.TheVariants as command;
+ghost use Rattle.command_line.specs.declared.command.Command.TheVariants as command;
 ghost use Rattle.avida_program.specs.Output.{origin_text, parent_text, path_line, path_lines, path_text, place_text};
 ghost use Rattle.avida_program.specs.Commands.{CarriesOut};
 

@@ -1,15 +1,15 @@
 // The command `landscape`.
 ghost use Rattle.std.specs.Prelude.{◌≡◌, ◌+◌, ◌++◌, ◌≤◌, cond, flat_map};
 ghost use Rattle.avida_program.specs.Prelude.{array_vec_len, letters, base_line, entry_line, landscape_text, neighbour_line, survey_text, totals_line, trial_text, change, Writes, WritesAll};
-ghost use Rattle.avida_program.specs.declared.command.Spelling.TheVariants.{Letters};
+ghost use Rattle.command_line.specs.declared.command.Spelling.TheVariants.{Letters};
 ghost use Rattle.avida_program.specs.Endings.{ReadsAndWrites};
 ghost use Rattle.avida_program.specs.Input.{genome_of_input};
 
 use crate::call_error::{CallError, ended_by};
-use crate::command::Spelling;
 use crate::input::read_genome;
 use crate::puts::put_rest;
 use avida_port::{Sink, SinkStop, Source};
+use command_line::Spelling;
 use genome::Genome;
 use instruction_set::Letter;
 use landscape::{Entry, Survey, Totals, Trial, survey};

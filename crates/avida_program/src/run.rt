@@ -1,7 +1,7 @@
 // The command `run`.
 ghost use Rattle.std.specs.Prelude.{◌≡◌, ◌≤◌, Some};
 ghost use Rattle.avida_program.specs.Prelude.{change};
-ghost use Rattle.avida_program.specs.declared.command.Command.TheVariants as command;
+ghost use Rattle.command_line.specs.declared.command.Command.TheVariants as command;
 ghost use Rattle.avida_program.specs.Commands.{CarriesOut};
 
 use crate::call_error::CallError;

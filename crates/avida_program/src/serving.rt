@@ -1,15 +1,14 @@
 // The whole program.
 ghost use Rattle.std.specs.Prelude.{map, string_bytes};
 ghost use Rattle.avida_program.specs.Prelude.{change};
+ghost use Rattle.command_line.specs.CommandLine.{HasNumbersInRange, command_of};
 ghost use Rattle.avida_program.specs.Endings.{TellsOf};
-ghost use Rattle.avida_program.specs.CommandLine.{HasNumbersInRange, command_of};
 ghost use Rattle.avida_program.specs.Commands.{CarriesOut, Obeys, Serves};
 
 use crate::Status;
 use crate::advance::advance;
 use crate::bench::bench;
 use crate::call_error::CallError;
-use crate::command::{Command, read_words};
 use crate::fault_line::line_of;
 use crate::laws::inputs_are_read_one_way;
 use crate::lineage::lineage;
@@ -23,7 +22,7 @@ use crate::trace::trace;
 use crate::tree::tree;
 use crate::upgrade::upgrade;
 use avida_port::{Gate, Sink, Source};
-use command_line::Refused;
+use command_line::{Command, Refused, read_words};
 use std::alloc::Global;
 use std::sync::Wait;
 use std::thread::Threads;

@@ -1,18 +1,17 @@
 // The command `trace`.
 ghost use Rattle.std.specs.Prelude.{◌≡◌};
 ghost use Rattle.avida_program.specs.Prelude.{letters, change, WritesAll};
-ghost use Rattle.avida_program.specs.CommandLine.{spelling_of};
+ghost use Rattle.command_line.specs.CommandLine.{spelling_of};
 ghost use Rattle.avida_program.specs.Endings.{ReadsAndWrites};
 ghost use Rattle.avida_program.specs.Input.{genome_of_input};
 ghost use Rattle.avida_program.specs.TraceText.{trace_lines, trace_text};
 
 use crate::call_error::{CallError, ended_by};
-use crate::command::genome_spelling;
 use crate::input::read_genome;
 use crate::puts::put_rest;
 use crate::trace_line::write_line;
 use avida_port::{Sink, SinkStop, Source};
-use command_line::Trace;
+use command_line::{Trace, genome_spelling};
 use genome::Genome;
 use landscape::organism_alone;
 use logic_tasks::Inputs;

@@ -21,3 +21,4 @@ pub mod ParserEnds
 pub mod PositionalLemmas
 pub mod NumberLemmas
 pub mod CommandForms
+pub mod RangeLemmas

@@ -50,7 +50,7 @@ impl Arguments for Assay {
 
 /// Reads the words of `assay`. The first word is the name of the command.
 #[tactic(auto, using(crate::proofs::CommandForms::assay_reads))]
-pub fn read_assay(alloc: Global, words: &[String]) -> Result<Assay, Refused>
+pub(crate) fn read_assay(alloc: Global, words: &[String]) -> Result<Assay, Refused>
     requires { 0 < length words.now }
     ensures { IsTold (told_by_row assay_row) words.now result }
 {

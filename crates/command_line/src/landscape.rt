@@ -34,7 +34,7 @@ impl Arguments for Landscape {
 /// Reads the words of `landscape`, and gives the number of steps. The first word is the name of the
 /// command.
 #[tactic(auto, using(crate::proofs::CommandForms::landscape_reads))]
-pub fn read_landscape(alloc: Global, words: &[String]) -> Result<u32, Refused>
+pub(crate) fn read_landscape(alloc: Global, words: &[String]) -> Result<u32, Refused>
     requires { 0 < length words.now }
     ensures { IsTold (told_by_row landscape_row) words.now result }
 {

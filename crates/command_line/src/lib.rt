@@ -1,7 +1,8 @@
-//! The words of a command line, read by one simple command a name.
+//! The commands, and how the words of a command line give one.
 #![tactic(auto)]
 
 mod assay;
+mod command;
 mod landscape;
 pub mod laws;
 mod nothing;
@@ -15,13 +16,9 @@ mod save;
 mod trace;
 mod workers;
 
-pub use assay::{Assay, read_assay};
-pub use landscape::read_landscape;
-pub use nothing::read_nothing;
-pub use positional::{
-    Bench, FurtherUpdates, Lineage, read_bench, read_further_updates, read_lineage,
-};
+pub use assay::Assay;
+pub use command::{Command, Spelling, genome_spelling, read_words};
+pub use positional::{Bench, FurtherUpdates, Lineage};
 pub use refused::Refused;
-pub use run::{Run, read_run};
-pub use save::read_save;
-pub use trace::{Trace, read_trace};
+pub use run::Run;
+pub use trace::Trace;

@@ -27,7 +27,7 @@ impl Arguments for Nothing {
 /// Reads the words of a command that has no arguments. The first word is the name, and only `--`
 /// may follow it.
 #[tactic(auto, using(crate::proofs::CommandForms::nothing_reads))]
-pub fn read_nothing(alloc: Global, words: &[String]) -> Result<(), Refused>
+pub(crate) fn read_nothing(alloc: Global, words: &[String]) -> Result<(), Refused>
     requires { 0 < length words.now }
     ensures { IsTold (told_by_row nothing_row) words.now result }
 {

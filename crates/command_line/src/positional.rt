@@ -73,7 +73,7 @@ pub struct Lineage {
 
 /// Reads the words of `lineage`. The first word is the name of the command.
 #[tactic(auto, using(crate::proofs::CommandForms::lineage_reads))]
-pub fn read_lineage(alloc: Global, words: &[String]) -> Result<Lineage, Refused>
+pub(crate) fn read_lineage(alloc: Global, words: &[String]) -> Result<Lineage, Refused>
     requires { 0 < length words.now }
     ensures { IsTold lineage_told words.now result }
 {
@@ -93,7 +93,7 @@ pub struct Bench {
 
 /// Reads the words of `bench`. The first word is the name of the command.
 #[tactic(auto, using(crate::proofs::CommandForms::bench_reads))]
-pub fn read_bench(alloc: Global, words: &[String]) -> Result<Bench, Refused>
+pub(crate) fn read_bench(alloc: Global, words: &[String]) -> Result<Bench, Refused>
     requires { 0 < length words.now }
     ensures { IsTold bench_told words.now result }
 {
@@ -114,7 +114,10 @@ pub struct FurtherUpdates {
 
 /// Reads the words of `resume` or `advance`. The first word is the name of the command.
 #[tactic(auto, using(crate::proofs::CommandForms::further_reads))]
-pub fn read_further_updates(alloc: Global, words: &[String]) -> Result<FurtherUpdates, Refused>
+pub(crate) fn read_further_updates(
+    alloc: Global,
+    words: &[String],
+) -> Result<FurtherUpdates, Refused>
     requires { 0 < length words.now }
     ensures { IsTold further_updates_told words.now result }
 {

@@ -50,7 +50,7 @@ impl Arguments for Run {
 
 /// Reads the words of `run`. The first word is the name of the command.
 #[tactic(auto, using(crate::proofs::CommandForms::run_reads))]
-pub fn read_run(alloc: Global, words: &[String]) -> Result<Run, Refused>
+pub(crate) fn read_run(alloc: Global, words: &[String]) -> Result<Run, Refused>
     requires { 0 < length words.now }
     ensures { IsTold (told_by_row run_row) words.now result }
 {

@@ -28,7 +28,7 @@ impl Arguments for Save {
 /// Reads the words of `save`, and gives the number of workers. The first word is the name of the
 /// command.
 #[tactic(auto, using(crate::proofs::CommandForms::save_reads))]
-pub fn read_save(alloc: Global, words: &[String]) -> Result<u32, Refused>
+pub(crate) fn read_save(alloc: Global, words: &[String]) -> Result<u32, Refused>
     requires { 0 < length words.now }
     ensures { IsTold (told_by_row save_row) words.now result }
 {

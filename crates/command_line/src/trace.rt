@@ -64,7 +64,7 @@ impl Arguments for Trace {
 
 /// Reads the words of `trace`. The first word is the name of the command.
 #[tactic(auto, using(crate::proofs::CommandForms::trace_reads))]
-pub fn read_trace(alloc: Global, words: &[String]) -> Result<Trace, Refused>
+pub(crate) fn read_trace(alloc: Global, words: &[String]) -> Result<Trace, Refused>
     requires { 0 < length words.now }
     ensures { IsTold (told_by_row trace_row) words.now result }
 {

@@ -1,13 +1,18 @@
-// The words of a command line.
+// The command that a command line gives.
 ghost use Rattle.std.specs.Prelude.{◌≡◌, ◌<◌, Some, MatchResult, IfOk, drop, length, map, string_bytes};
+ghost use Rattle.command_line.specs.CommandLine.{HasNumbersInRange, bare_command, command_named, command_of, spelling_of};
 ghost use Rattle.command_line.specs.Reading.{Refuses};
-ghost use Rattle.avida_program.specs.CommandLine.{HasNumbersInRange, bare_command, command_named, command_of, spelling_of};
 
-use command_line::{
-    Assay, Bench, FurtherUpdates, Lineage, Refused, Run, Trace, read_assay, read_bench,
-    read_further_updates, read_landscape, read_lineage, read_nothing, read_run, read_save,
-    read_trace,
+use crate::assay::{Assay, read_assay};
+use crate::landscape::read_landscape;
+use crate::nothing::read_nothing;
+use crate::positional::{
+    Bench, FurtherUpdates, Lineage, read_bench, read_further_updates, read_lineage,
 };
+use crate::refused::Refused;
+use crate::run::{Run, read_run};
+use crate::save::read_save;
+use crate::trace::{Trace, read_trace};
 use std::alloc::Global;
 
 /// How a genome is written: by letters or by names.

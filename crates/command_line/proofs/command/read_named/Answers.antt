@@ -1,7 +1,7 @@
 use Rattle.std.proofs.Common.{map, string_bytes}
 use Rattle.std.specs.Prelude.{drop}
-use Rattle.avida_program.proofs.RangeLemmas.{descent_in_range, workers_in_range}
-use Rattle.avida_program.proofs.command.read_named.Goals as goal
+use Rattle.command_line.proofs.RangeLemmas.{descent_in_range, workers_in_range}
+use Rattle.command_line.proofs.command.read_named.Goals as goal
 
 pub returns-in_ok-read_run-in-run-clause-range : goal.returns-in_ok-read_run-in-run-clause-range
 returns-in_ok-read_run-in-run-clause-range c =

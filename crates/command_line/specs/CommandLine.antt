@@ -1,11 +1,11 @@
 -- What words give a command (docs/FORMATS.md, "The command line").
-use Rattle.std.specs.Prelude.{Bool, true, false, ℕ, List, [], ◌∷◌, Option, None, ◌≤◌, ⊤, codes, if◌then◌else◌, option_map}
+use Rattle.std.specs.Prelude.{Bool, ℕ, List, [], ◌∷◌, Option, None, ◌≤◌, ⊤, codes, if◌then◌else◌, option_map}
 use Rattle.std.specs.Str.{bytes_eq}
 use Rattle.command_line.specs.Commands as told
-use Rattle.avida_program.specs.declared.command.Command.{Command}
-use Rattle.avida_program.specs.declared.command.Command.TheVariants.{Trace, Run, Lineage, Bench, Assay, Save, Resume, Advance, Replay, Upgrade, Tree, Landscape}
-use Rattle.avida_program.specs.declared.command.Spelling.{Spelling}
-use Rattle.avida_program.specs.declared.command.Spelling.TheVariants.{Letters, Names}
+use Rattle.command_line.specs.declared.command.Command.{Command}
+use Rattle.command_line.specs.declared.command.Command.TheVariants.{Trace, Run, Lineage, Bench, Assay, Save, Resume, Advance, Replay, Upgrade, Tree, Landscape}
+use Rattle.command_line.specs.declared.command.Spelling.{Spelling}
+use Rattle.command_line.specs.declared.command.Spelling.TheVariants.{Letters, Names}
 use Rattle.command_line.specs.Rows.{assay_row, landscape_row, nothing_row, run_row, save_row, told_by_row, trace_row}
 
 -- the spelling of a genome, where `--org` stands or not
@@ -45,13 +45,6 @@ command_of (name ∷ words) = command_named name words
 abbrev pub looks_of : Command → Option ℕ
 looks_of (Run run) = run.watch
 looks_of _ = None
-
--- a command that leaves the last world of a run
-abbrev pub leaves_world : Command → Bool
-leaves_world (Run run) = true
-leaves_world (Lineage lineage) = true
-leaves_world (Bench bench) = true
-leaves_world _ = false
 
 -- there are from 1 to 64 workers a world; `bench` has a configuration's seed, `assay` from 1 to 64
 abbrev pub HasNumbersInRange : Command → Type 0
