@@ -1,4 +1,4 @@
-use Rattle.std.proofs.Common.{◌≡◌, ◌∙◌, ◌<◌, ◌*◌, ℕ, length, sym, arith, ap}
+use Rattle.std.proofs.Common.{◌≡◌, ◌∙◌, ◌<◌, ◌*◌, ℕ, length, map, sym, arith, ap}
 use Rattle.world_core.proofs.Prelude.{length-map, All-map, values_of, IfOk-weaker, placing_round_at, Delivery, placings_of, id_of, ids_of, IsDelivery, delivery_at, Delivered, SceneValue, scene_in}
 use Rattle.birth_board.specs.declared.placing_round.PlacingRound.{PlacingRound}
 use Rattle.birth_board.specs.Torus.{TorusNumbers}
