@@ -1,6 +1,6 @@
 -- Letters and their bytes.
 use Rattle.std.proofs.Common.{◌≡◌, ℕ, ◌<◌, Some, arith}
-use Rattle.std.specs.Prelude.{find, ◌==◌}
+use Rattle.std.specs.Prelude.{◌==◌}
 use Rattle.log_lines.proofs.Prelude.{eqb-true, Letter, letter_table, byte_of, letter_of_byte, find-passes}
 
 -- the letter that a byte gives has that byte

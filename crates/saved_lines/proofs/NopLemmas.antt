@@ -1,5 +1,5 @@
 -- Nops that are read letter by letter.
-use Rattle.std.proofs.Common.{◌≡◌, ℕ, ◌+◌, ◌-◌, ◌<◌, ◌⊎◌, true, false, List, [], ◌∷◌, ◌++◌, length, get_or, drop, Option, Some, None, refl, sym, ap, ◌∙◌, arith, drop-cons, add-one}
+use Rattle.std.proofs.Common.{◌≡◌, ℕ, ◌+◌, ◌<◌, ◌⊎◌, true, false, List, [], ◌∷◌, ◌++◌, length, get_or, drop, Option, Some, None, refl, sym, ap, ◌∙◌, arith, drop-cons, add-one}
 use Rattle.std.specs.Prelude.{◌&&◌, nat_lt, nat_le, option_and_then, option_map}
 use Rattle.saved_lines.proofs.Prelude.{list_all, and_parts, nat_tests, Letter, letter_of_byte, is_nop, each, given, each_length, map_more, are_nops, some_nops}
 
