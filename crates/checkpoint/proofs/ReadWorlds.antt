@@ -1,6 +1,11 @@
 -- A saved world that is read can be written.
-use Rattle.std.proofs.Common.{◌≡◌, ℕ, ◌+◌, ◌==◌, Bool, true, false, List, [], ◌∷◌, ◌++◌, length, Option, Some, None, Result, Ok, refl, subst}
-use Rattle.checkpoint.proofs.Prelude.{All-from_recursion, slice_split, CpuImage, HasSavedForm, IsMachineLine, IsOrganismLine, saved_line_of, SavedLine, Head, Organism, Count, HeadValues, OrganismValues, SavedPlace, Before, Among, Halfway, After, Placed, after_saved_line, may_follow, may_stand, one_saved_piece, pieces_state, placed_of, saved_of, state_of_lines, told_saved_line, SavedState, SavedStop, AreSaved, IsHead, MayStandThere, IsWritable}
+use Rattle.std.proofs.Common.{◌≡◌, ℕ, ◌==◌, Bool, true, false, List, [], ◌∷◌, ◌++◌, length, Option, Some, None, Result, Ok, Err, refl, subst}
+use Rattle.checkpoint.proofs.Prelude.{AllByRecursion, All-from_recursion, CpuImage, HasSavedForm, IsMachineLine, IsOrganismLine, SavedLine, Head, Organism, Count, HeadValues, OrganismValues, SavedPlace, Before, Among, Halfway, After, Placed, may_follow, may_stand, placed_of, saved_of, state_of_lines, told_saved_line, SavedState, AreSaved, IsHead, MayStandThere, IsWritable}
+use Rattle.lineage_log.specs.NumberedLines.{Fault, HasGoodLines, told_each}
+use Rattle.lineage_log.proofs.LineWalkLaws.{went_on}
+use Rattle.saved_worlds.proofs.ReadsSavedLemmas.{saved_is_read}
+use Rattle.saved_worlds.specs.SavedGrammar.{ReadsSaved, last_state, saved_answer, saved_kind}
+use Rattle.std.specs.Option.{ok_or}
 use Rattle.log_lines.specs.Fields.{given}
 use Rattle.saved_lines.specs.SavedText.{Machine}
 use Rattle.checkpoint.proofs.KeptLemmas.{saved_more}
@@ -39,17 +44,17 @@ one_saved head placed o image good read follows =
     (may_stand_there head o image placed good.0.values good.2 read by_rules
     (follows_by_rules head o image follows)) by_rules.above by_rules.fresh
 
--- each line that was read has a form
-abbrev pub TakesForms : Type 0
-TakesForms = (bytes : List ℕ) (line : SavedLine) → saved_line_of bytes ≡ Some line
-    → HasSavedForm line
-
 -- a saved world that can be made of lines can be written
 abbrev pub LinesAreWritable : Type 0
 LinesAreWritable = (head : HeadValues) (placed : List Placed) → AreSaved head placed
     → IsWritable (state_of_lines head placed)
 
-module _ (takes : TakesForms) (made : LinesAreWritable) where
+-- what was told as a result was told
+some_told : {A : Type 0} {a : A} (o : Option A) → ok_or o (tt {0}) ≡ Ok a → o ≡ Some a
+some_told None is = absurd cc
+some_told (Some a) is = cc
+
+module _ (made : LinesAreWritable) where
   -- the place after one line more
   told_good : (place next : SavedPlace) (line : SavedLine) → HasSavedForm line → IsGood place
       → told_saved_line place line ≡ Some next → IsGood next
@@ -69,37 +74,39 @@ module _ (takes : TakesForms) (made : LinesAreWritable) where
   told_good (Halfway head placed o) next _ read good h = absurd cc
   told_good (After state) next line read good h = absurd cc
 
-  module _ (number : ℕ) (place : SavedPlace) (others : SavedPlace → Result SavedState SavedStop)
-      (state : SavedState) (good : IsGood place)
-      (leads : (next : SavedPlace) → IsGood next → others next ≡ Ok state → IsWritable state) where
-    -- a place, and others
-    after_good : (line : SavedLine) (found : Option SavedPlace) → HasSavedForm line
-        → told_saved_line place line ≡ found → after_saved_line number found others ≡ Ok state
-        → IsWritable state
-    after_good line None read is h = absurd cc
-    after_good line (Some next) read is h = leads next (told_good place next line read good is) h
+  -- the place after all lines
+  lines_good : (place to : SavedPlace) (lines : List SavedLine) → AllByRecursion HasSavedForm lines
+      → IsGood place → told_each saved_kind.told place lines ≡ Ok to → IsGood to
+  lines_good place to [] forms good order =
+      let same : place ≡ to = cc in subst IsGood same good
+  lines_good place to (line ∷ lines) forms good order =
+      let step = went_on (saved_kind.told place line) (λ p. told_each saved_kind.told p lines) to
+      order in
+      lines_good step.0 to lines forms.1
+      (told_good place step.0 line forms.0 good (some_told (told_saved_line place line) step.1))
+      step.2
 
-    -- a piece, and others
-    piece_good : (piece : List ℕ) (found : Option SavedLine) → saved_line_of piece ≡ found
-        → one_saved_piece number place found others ≡ Ok state → IsWritable state
-    piece_good piece None is h = absurd cc
-    piece_good piece (Some line) is h =
-        after_good line (told_saved_line place line) (takes piece line is) refl h
+  -- the state once the last line has come
+  end_good : (place : SavedPlace) (state : SavedState) → IsGood place
+      → last_state place ≡ Some state → IsWritable state
+  end_good (After last) state good is =
+      let same : last ≡ state = cc in subst IsWritable same good
+  end_good _ state good is = absurd cc
 
-  -- all pieces
-  pieces_good : (number : ℕ) (place : SavedPlace) (pieces : List (List ℕ)) (state : SavedState)
-      → IsGood place → pieces_state number place pieces ≡ Ok state → IsWritable state
-  pieces_good number place (piece ∷ next ∷ pieces) state good h =
-      piece_good number place (λ p. pieces_state (number + 1) p (next ∷ pieces)) state good
-      (λ p is led. pieces_good (number + 1) p (next ∷ pieces) state is led) piece _ refl h
-  pieces_good number (After state) ([] ∷ []) other good h =
-      let same : state ≡ other = cc in subst IsWritable same good
-  pieces_good number _ ([] ∷ []) state good h = absurd cc
-  pieces_good number _ _ state good h = absurd cc
+  -- a reading as a state
+  reading_good : (bytes : List ℕ) (state : SavedState) (lines : List SavedLine)
+      (end : Result SavedState (Fault (Unit {0})))
+      → HasGoodLines saved_kind Before bytes lines end
+      → Ok state ≡ saved_answer 1 lines end → IsWritable state
+  reading_good bytes state lines (Ok last) reads is =
+      let same : last ≡ state = cc in
+      end_good reads.place state (lines_good Before reads.place lines reads.forms tt reads.order)
+      (rw same at reads.ends.1)
+  reading_good bytes state lines (Err fault) reads is = absurd cc
 
   -- the state of the bytes of a saved world
   pub read_writable : (bytes : List ℕ) (state : SavedState) → saved_of bytes ≡ Ok state
       → IsWritable state
-  unfolding saved_of
-  read_writable bytes state h =
-      pieces_good 1 Before (slice_split (λ b. b == 10) bytes) state tt h
+  read_writable bytes state is =
+      let read = subst (ReadsSaved bytes) is (saved_is_read bytes) in
+      reading_good bytes state read.lines read.end read.reads read.answers

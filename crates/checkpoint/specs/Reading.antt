@@ -1,6 +1,6 @@
 -- Where the reader of a saved world stands, and what it answers (docs/FORMATS.md, "Saved worlds").
-use Rattle.std.specs.Prelude.{ℕ, List, Option, take, ◌≡◌, ⊤, Result, Ok, Err}
-use Rattle.checkpoint.specs.Prelude.{Occupant, cell_text, SavedState, values_of_organism, SavedPlace, Before, Among, Halfway, After, state_of_lines, one_saved_piece, CanGoOn, FitsText, SavedLine}
+use Rattle.std.specs.Prelude.{ℕ, List, Option, None, Some, IsSome, option_and_then, take, ◌≡◌, ⊤, Result, Ok, Err}
+use Rattle.checkpoint.specs.Prelude.{Occupant, cell_text, SavedState, values_of_organism, SavedPlace, Before, Among, Halfway, After, state_of_lines, told_saved_line, CanGoOn, FitsText, SavedLine}
 use Rattle.std.specs.List.{enumerate_from, flat_map}
 use Rattle.checkpoint.specs.declared.place.ReadPlace as code
 use Rattle.checkpoint.specs.declared.place.ReadPlace.TheVariants as place
@@ -32,14 +32,15 @@ abbrev pub Ends : Result SoFarValue SavedStop → Result SavedState SavedStop �
 Ends (Ok so_far) read = read ≡ Ok (state_of_lines so_far.head so_far.placed)
 Ends (Err e) read = IsFaultOf e read
 
--- with a piece of this line the others are read from the next place, or why not
+-- a piece, of which this line or none is read, leads to the next place, or why not
 abbrev pub Steps : Result code.ReadPlace SavedStop → ℕ → SavedPlace → Option SavedLine → Type 0
-Steps (Ok next) number place line =
-    (others : SavedPlace → Result SavedState SavedStop)
-    → one_saved_piece number place line others ≡ others (saved_place_of next)
-Steps (Err e) number place line =
-    (others : SavedPlace → Result SavedState SavedStop)
-    → IsFaultOf e (one_saved_piece number place line others)
+Steps (Ok next) number place found =
+    option_and_then (told_saved_line place) found ≡ Some (saved_place_of next)
+Steps (Err stop.Memory) number place found = ⊤
+Steps (Err (stop.BadLine line)) number place found = (line ≡ number) × (found ≡ None)
+Steps (Err (stop.BadState line)) number place found =
+    (line ≡ number) × IsSome found × (option_and_then (told_saved_line place) found ≡ None)
+Steps (Err (stop.Unended line)) number place found = ⊥
 
 -- a state that its text gives again
 pub record IsWritable (state : SavedState) : Type 0 where

@@ -57,7 +57,6 @@ pub fn read_worlds_can_be_written()
         → saved_of bytes ≡ Ok state
         → IsWritable state }
 {
-    one_spelling();
     lines_can_go_on();
 }
 

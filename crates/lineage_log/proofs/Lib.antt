@@ -1,7 +1,7 @@
 pub mod Prelude
+pub mod LineWalkLaws
 pub mod LogLaws
 pub mod ReadLemmas
-pub mod ReadsLogLemmas
 pub mod UpgradeLemmas
 pub mod StandingLemmas
 pub mod ReplayLemmas

@@ -1,16 +1,18 @@
 -- What the proofs of this crate cite from outside most often, passed on from one place.
 pub use Rattle.lineage_log.specs.Ancestry.{AreOlder, CanCome, IsPruned, Link, TreeValue, ancestor_ids_of, ancestors_within, genome_in_tree, is_in_line, is_kept, link_of, parent_of, tree_with_death, tree_with_newcomer, without_id}
 unfoldable pub use Rattle.lineage_log.specs.Ancestry.{kept_of, line_of_descent}
-pub use Rattle.lineage_log.specs.LogGrammar.{IsGoodLog, Reads, last_piece, lines_text, newer, one_piece, pieces_log, stop_at, upgraded, with_line}
+pub use Rattle.lineage_log.specs.LineWalk.{LinesRead, after_told, ended, last_end, one_piece, pieces_read}
+pub use Rattle.lineage_log.specs.LogGrammar.{IsGoodLog, Reads, lines_text, log_answer, newer, pieces_log, stop_at, upgraded, with_line}
 unfoldable pub use Rattle.lineage_log.specs.LogGrammar.{log_of}
 pub use Rattle.lineage_log.specs.LogReading.{IsAtStart, TellsNext, TellsPiece, left_of, place_of}
 pub use Rattle.lineage_log.specs.Nodes.{AreFamilies, AreNeededBut, AreNodes, IsInFamily, IsSettled, NodeValue, as_child, children_of, id_order, is_needed, links_of, living_ids_of, node_at, node_link, tree_of}
-pub use Rattle.lineage_log.specs.Order.{After, Before, IsWhole, LogPlace, Within, and_on, opened, told, told_all, within_if}
+pub use Rattle.lineage_log.specs.NumberedLines.{BeginsWith, EndsWith, Fault, HasGoodLines, LineKind, NoLine, OutOfOrder, Unended, and_on, text_of_lines, told_each}
+pub use Rattle.lineage_log.specs.Order.{After, Before, IsWhole, LogPlace, Within, opened, told, told_all, within_if}
 unfoldable pub use Rattle.lineage_log.specs.Order.{told_birth, told_cleared, told_count, told_death, told_end, told_injected, told_rate, told_start}
 pub use Rattle.lineage_log.specs.Prelude.{AllByRecursion, Birth, BirthRecord, Cleared, Count, Death, End, Injected, Letter, Line, Rate, Start, child_of, keys_of, line_of, line_values, list_any, lookup, option_map_or, option_to_list, record_of, set_value, slice_split, sum_by, values_of}
 pub use Rattle.lineage_log.specs.Reader.{EachIsKept, Reader, holds, kept_genomes, reader_with_death, reader_with_newcomer}
 pub use Rattle.lineage_log.specs.Readings.{Tells, lines_of, reader_of, stop_of}
-pub use Rattle.lineage_log.specs.ReadsLog.{BeginsWith, IsFaulty, ReadsLog}
+pub use Rattle.lineage_log.specs.ReadsLog.{ReadsLog, last_reader, log_kind}
 pub use Rattle.lineage_log.specs.Replay.{LeavesReader, Resident, Seen, living_residents_of, resident_at, residents_from, seen_all, seen_on}
 unfoldable pub use Rattle.lineage_log.specs.Replay.{replay_of}
 pub use Rattle.lineage_log.specs.declared.log_reader.LogReader.{LogReader}

@@ -1,11 +1,12 @@
 -- The loop over the pieces of a log.
-use Rattle.std.proofs.Common.{◌≡◌, ℕ, ◌+◌, List, [], ◌∷◌, ◌++◌, Option, Some, None, Result, Ok, Err, Bor, refl, sym, ap, ◌∙◌, append_assoc}
+use Rattle.std.proofs.Common.{◌≡◌, ℕ, ◌+◌, List, [], ◌∷◌, ◌++◌, Option, Some, None, Result, Ok, Err, Bor, refl, sym, ap, ◌∙◌, append_assoc, zero-add}
 use Rattle.std.specs.Prelude.{◌≢◌, ◌↔◌, option_copied}
-use Rattle.lineage_log.proofs.Prelude.{Line, line_of, Reason, Refusal, LogStop, LogPlace, told, LogReader, TellsPiece, left_of, place_of, Tells, stop_of, stop_at, with_line, one_piece, pieces_log, log_of, lines_text, Reads, IsGoodLog}
+use Rattle.lineage_log.proofs.Prelude.{Line, line_of, Reason, Refusal, LogStop, LogPlace, told, LogReader, TellsPiece, left_of, place_of, Tells, stop_of, stop_at, with_line, pieces_log, log_kind, log_of, lines_text, Reads, IsGoodLog}
 use Rattle.log_lines.specs.Words.{pieces_of}
 use Rattle.lineage_log.specs.declared.refusal.Refusal.TheVariants.{Memory, Faulty}
 use Rattle.lineage_log.specs.declared.log_stop.LogStop.TheVariants as wanting
-use Rattle.lineage_log.proofs.LogLaws.{cut, cut_some}
+use Rattle.lineage_log.proofs.LineWalkLaws.{cut, more_pieces}
+use Rattle.lineage_log.proofs.LogLaws.{line_counted}
 
 -- lines before those that are read
 abbrev pub with_front : List Line → Result (List Line) LogStop → Result (List Line) LogStop
@@ -33,31 +34,28 @@ next_piece reader piece others behind split is =
     ap (λ (ps : List (List ℕ)). pieces_log reader.number (place_of reader.place) ps)
     (rw is at split)
 
--- a piece before those of further bytes is read as one line
-more_pieces : (number : ℕ) (place : LogPlace) (piece rest : List ℕ)
-    → pieces_log number place (piece ∷ cut rest) ≡ one_piece number place (line_of piece)
-    (λ p. pieces_log (number + 1) p (cut rest))
-more_pieces number place piece rest = rw (cut_some rest).2
-
 module _ (number : ℕ) (place : LogPlace) (piece rest : List ℕ) where
   -- a piece that is no line is the fault
   pub bad_line : line_of piece ≡ None
       → pieces_log number place (piece ∷ cut rest) ≡ Err (wanting.BadLine number)
-  bad_line none = rw (more_pieces number place piece rest, none)
+  bad_line none = rw (more_pieces log_kind line_of place piece rest, none, zero-add number) refl
 
   -- a line that is out of order is the fault, for the same reason
   pub bad_order : (one : Line) (reason : Reason) → line_of piece ≡ Some one
       → told place one ≡ Err reason
       → pieces_log number place (piece ∷ cut rest)
       ≡ Err (stop_at number reason)
-  bad_order one reason is bad = rw (more_pieces number place piece rest, is, bad)
+  bad_order one reason is bad =
+      rw (more_pieces log_kind line_of place piece rest, is, bad, zero-add number) refl
 
   -- a line that is told is read, and the others from the place that it leads to
   pub good_line : (one : Line) (next : LogPlace) (after : ℕ) → line_of piece ≡ Some one
       → told place one ≡ Ok next → after ≡ number + 1
       → pieces_log number place (piece ∷ cut rest)
       ≡ with_line one (pieces_log after next (cut rest))
-  good_line one next after is good more = rw (more_pieces number place piece rest, is, good, more)
+  good_line one next after is good more =
+      rw (more_pieces log_kind line_of place piece rest, is, good)
+      (line_counted number after one _ _ more)
 
   -- a piece that was not taken is the fault, for the same reason
   pub refused_piece : (refusal : Refusal) (stop : LogStop) (after : LogPlace)

@@ -4,11 +4,13 @@ pub use Rattle.mutations.specs.BirthRecord
 pub use Rattle.log_lines.specs.Line
 pub use Rattle.log_lines.specs.LineText
 pub use Rattle.log_lines.specs.LineReading
+pub mod NumberedLines
 pub mod Reader
 pub mod Order
 pub mod Readings
 pub mod LogReading
 pub mod ReadsLog
+pub mod LineWalk
 pub mod LogGrammar
 pub mod Replay
 pub mod Ancestry

@@ -6,6 +6,8 @@ use Rattle.log_lines.specs.declared.stats.Stats.{Stats}
 use Rattle.lineage_log.specs.declared.reason.Reason.{Reason}
 use Rattle.lineage_log.specs.declared.reason.Reason.TheVariants.{BadOrder, UnknownParent, BadChange}
 use Rattle.lineage_log.specs.declared.stage.Stage.TheVariants.{Quiet, Dying, Placing, Happening}
+pub use Rattle.lineage_log.specs.NumberedLines.{and_on}
+use Rattle.lineage_log.specs.NumberedLines.{told_each}
 use Rattle.lineage_log.specs.Reader.{holds, taken, Reader, may_die, may_be_born, is_quiet, parent_in, reader_with_newcomer, reader_with_death}
 
 -- before the first line, within the log, or after the last line
@@ -123,16 +125,9 @@ told (Within r) (Count stats) = told_count r stats
 told (Within r) (End updates) = told_end r updates
 told _ _ = Err BadOrder
 
--- what follows a line, unless it is faulty
-abbrev pub and_on : Result LogPlace Reason → (LogPlace → Result LogPlace Reason)
-    → Result LogPlace Reason
-and_on (Ok place) next = next place
-and_on (Err reason) next = Err reason
-
 -- all lines, up to the first that is faulty
 abbrev pub told_all : LogPlace → List Line → Result LogPlace Reason
-told_all place [] = Ok place
-told_all place (line ∷ lines) = and_on (told place line) (λ next. told_all next lines)
+told_all place lines = told_each told place lines
 
 -- the last line has come
 abbrev pub IsWhole : Result LogPlace Reason → Type 0

@@ -1,14 +1,16 @@
 -- What the bytes of a log are read as (docs/FORMATS.md, "The log"): the lines of a good log, or the
 -- fault behind good lines. For example, behind a first line `E 5` and a newline are out of order in
 -- line 2, since no update has its end yet, and `E 0` without a newline is a bad line.
-use Rattle.std.specs.Prelude.{◌≡◌, ◌≢◌, ◌+◌, ℕ, List, [], ◌++◌, flat_map, length, Result, Ok, Err}
+use Rattle.std.specs.Prelude.{◌≡◌, ◌+◌, ℕ, List, flat_map, length, Option, Some, None, Result, Ok, Err}
 use Rattle.lineage_log.specs.Prelude.{AllByRecursion, Line}
-use Rattle.log_lines.specs.LineText.{HasForm, line_text}
+use Rattle.log_lines.specs.LineText.{HasForm, line_text, row_text}
 use Rattle.lineage_log.specs.declared.log_stop.LogStop.{LogStop}
 use Rattle.lineage_log.specs.declared.log_stop.LogStop.TheVariants as stop
 use Rattle.lineage_log.specs.declared.reason.Reason.{Reason}
 use Rattle.lineage_log.specs.declared.reason.Reason.TheVariants as reason
-use Rattle.lineage_log.specs.Order.{LogPlace, Before, IsWhole, told, told_all}
+use Rattle.lineage_log.specs.NumberedLines.{LineKind, Fault, NoLine, OutOfOrder, Unended, HasGoodLines}
+use Rattle.lineage_log.specs.Order.{LogPlace, Before, After, IsWhole, told, told_all}
+use Rattle.lineage_log.specs.Reader.{Reader}
 
 -- the text of a list of lines
 abbrev pub lines_text : List Line → List ℕ
@@ -19,20 +21,14 @@ pub record IsGoodLog (lines : List Line) : Type 0 where
   pub forms : AllByRecursion HasForm lines
   pub order : IsWhole (told_all Before lines)
 
--- good lines with which the bytes begin, the place to which they lead, and the bytes behind them
-pub record GoodFront (bytes : List ℕ) : Type 0 where
-  pub lines : List Line
-  pub place : LogPlace
-  pub left : List ℕ
-  pub text : lines_text lines ++ left ≡ bytes
-  pub forms : AllByRecursion HasForm lines
-  pub order : told_all Before lines ≡ Ok place
+-- the reader, once the last line has come
+abbrev pub last_reader : LogPlace → Option Reader
+last_reader (After r) = Some r
+last_reader _ = None
 
--- the bytes begin with this line, which has a form
-pub record BeginsWith (bytes : List ℕ) (line : Line) : Type 0 where
-  pub rest : List ℕ
-  pub text : line_text line ++ rest ≡ bytes
-  pub form : HasForm line
+-- the lines of a log
+abbrev pub log_kind : LineKind Line LogPlace Reason Reader
+log_kind = record { text = row_text; HasForm = HasForm; told = told; whole_at = last_reader }
 
 -- the answer for a line that is out of order
 abbrev pub stop_at : ℕ → Reason → LogStop
@@ -40,20 +36,16 @@ stop_at line reason.BadOrder = stop.BadOrder line
 stop_at line reason.UnknownParent = stop.UnknownParent line
 stop_at line reason.BadChange = stop.BadChange line
 
--- why the bytes behind good lines are faulty, the first line of which has this number
-abbrev pub IsFaulty : LogPlace → ℕ → List ℕ → LogStop → Type 0
-IsFaulty place number left (stop.Unended line) =
-    (line ≡ number) × (left ≡ []) × ¬ IsWhole (Ok place)
-IsFaulty place number left (stop.BadLine line) =
-    (line ≡ number) × (left ≢ []) × ((first : Line) → ¬ BeginsWith left first)
-IsFaulty place number left stop.Memory = ⊥
-IsFaulty place number left why =
-    (first : Line) × (cause : Reason) × BeginsWith left first × (told place first ≡ Err cause)
-    × (why ≡ stop_at number cause)
+-- the answer for a faulty line
+abbrev pub log_stop : ℕ → Fault Reason → LogStop
+log_stop line NoLine = stop.BadLine line
+log_stop line (OutOfOrder reason) = stop_at line reason
+log_stop line Unended = stop.Unended line
 
 -- the bytes are read as these lines, or rejected for this
 abbrev pub ReadsLog : List ℕ → Result (List Line) LogStop → Type 0
 ReadsLog bytes (Ok lines) = (lines_text lines ≡ bytes) × IsGoodLog lines
 ReadsLog bytes (Err why) =
-    (front : GoodFront bytes)
-    × IsFaulty front.place (length front.lines + 1) front.left why
+    (lines : List Line) × (fault : Fault Reason)
+    × HasGoodLines log_kind Before bytes lines (Err fault)
+    × (why ≡ log_stop (length lines + 1) fault)

@@ -6,5 +6,4 @@ mod Heads
 pub mod Valid
 mod Lines
 mod Runs
-pub mod SavedPieces
 pub mod ReadsSavedLemmas

@@ -1,24 +1,23 @@
 -- What the proofs of this crate cite from outside most often, passed on from one place.
-pub use Rattle.genome.proofs.ListLemmas.{some_then}
 pub use Rattle.log_lines.proofs.FieldLaws.{split_first}
 pub use Rattle.mutations.specs.Rates.{RateNumbers}
 pub use Rattle.mutations.specs.RecordForm.{IsWithin}
 pub use Rattle.organism.specs.OrganismState.{OrganismState}
 pub use Rattle.saved_lines.specs.SavedReading.{saved_line_of}
-pub use Rattle.saved_lines.specs.SavedText.{SavedLine, saved_line_text, saved_row_text}
+pub use Rattle.saved_lines.specs.SavedText.{SavedLine}
 pub use Rattle.saved_lines.specs.SavedValues.{HeadValues}
 pub use Rattle.saved_worlds.specs.Resuming.{config_of_head, forgotten, later_texts, with_world, world_of_state}
 unfoldable pub use Rattle.saved_worlds.specs.Resuming.{continued_text, next_state, next_text, saved_state_after}
-pub use Rattle.saved_worlds.specs.SavedGrammar.{After, Among, Before, BeginsWithLine, EndsSaved, Halfway, Placed, ReadsSaved, SavedPlace, after_saved_line, last_saved_piece, one_saved_piece, pieces_state, state_of_lines, told_saved_line, told_saved_lines, with_placed}
+pub use Rattle.saved_worlds.specs.SavedGrammar.{Before, Placed, ReadsSaved, SavedPlace, pieces_state, saved_answer, saved_kind, state_of_lines, told_saved_line, with_placed}
 unfoldable pub use Rattle.saved_worlds.specs.SavedGrammar.{saved_of}
 pub use Rattle.saved_worlds.specs.SavedState.{SavedState, head_at, state_of_world}
 unfoldable pub use Rattle.saved_worlds.specs.SavedState.{state_of}
 pub use Rattle.saved_worlds.specs.ValidState.{AreRates, AreSaved, CanGoOn, FitsText, HasRoomFor, IsHead, IsHeadUpTo, MayLive}
-pub use Rattle.std.proofs.lemmas.Bool.{and_parts, cases_Bool, cases_eq, cases_lt, leb-true}
+pub use Rattle.std.proofs.lemmas.Bool.{and_parts, cases_eq, cases_lt, leb-true}
 pub use Rattle.std.proofs.lemmas.Bool.Decides.{nat_tests}
 pub use Rattle.std.proofs.lemmas.List.{length-replicate, length-set}
 pub use Rattle.std.proofs.lemmas.List.Elements.{All-filter, recursion_from_All}
-pub use Rattle.std.specs.List.{AllByRecursion, enumerate_from, join_with_byte, onto_first, range_with_len, scan}
+pub use Rattle.std.specs.List.{AllByRecursion, enumerate_from, range_with_len, scan}
 pub use Rattle.world_config.specs.Events.{EventValue, WhatValue, clear, event_fits, event_values, inject, rate, what_fits}
 pub use Rattle.world_config.specs.KeyTable.{Frame, frame_of}
 pub use Rattle.world_config.specs.Shown.{values_of}

@@ -2,10 +2,13 @@
 -- with which they begin, and what is left behind these. For example, behind the first line of a
 -- world the bytes `Z 1` and a newline have the fault `BadState` in line 2, since nobody stands in
 -- it, and the bytes `Z 0` without a newline have the fault `BadLine`.
-use Rattle.std.specs.Prelude.{ℕ, ◌+◌, ◌==◌, List, [], ◌∷◌, Option, None, Some, Result, Ok, Err, ◌≡◌, ◌≢◌, ◌++◌, length, flat_map, option_and_then}
-use Rattle.std.specs.List.{slice_split, AllByRecursion}
+use Rattle.std.specs.Prelude.{ℕ, ◌+◌, ◌==◌, List, [], Option, None, Some, Result, Ok, Err, ◌≡◌, length}
+use Rattle.std.specs.List.{slice_split}
+use Rattle.std.specs.Option.{ok_or}
+use Rattle.lineage_log.specs.LineWalk.{last_end, pieces_read}
+use Rattle.lineage_log.specs.NumberedLines.{LineKind, Fault, NoLine, OutOfOrder, Unended, HasGoodLines}
 use Rattle.saved_lines.specs.SavedReading.{saved_line_of}
-use Rattle.saved_lines.specs.SavedText.{SavedLine, saved_line_text}
+use Rattle.saved_lines.specs.SavedText.{SavedLine, saved_row_text}
 pub use Rattle.saved_worlds.specs.SavedOrder.{Placed, SavedPlace, Before, Among, Halfway, After, is_above, is_new, is_young, may_stand, are_within, may_follow, placed_of, with_placed, state_of_lines, told_saved_line}
 use Rattle.saved_worlds.specs.SavedState.{SavedState}
 use Rattle.saved_worlds.specs.declared.saved_stop.SavedStop.{SavedStop}
@@ -13,69 +16,49 @@ use Rattle.saved_worlds.specs.declared.saved_stop.SavedStop.TheVariants as stop
 use Rattle.saved_lines.specs.SavedForms.{HasSavedForm}
 use Rattle.saved_worlds.specs.SavedOrder.{SavedPlace, Before, After, told_saved_line}
 
+-- the state, once the last line has come
+abbrev pub last_state : SavedPlace → Option SavedState
+last_state (After state) = Some state
+last_state _ = None
+
+-- the lines of a saved world; one that doesn't fit has no further cause
+abbrev pub saved_kind : LineKind SavedLine SavedPlace (Unit {0}) SavedState
+saved_kind = record {
+  text = saved_row_text;
+  HasForm = HasSavedForm;
+  told = λ place line. ok_or (told_saved_line place line) tt;
+  whole_at = last_state;
+}
+
+-- the answer for a faulty line
+abbrev pub saved_stop : ℕ → Fault (Unit {0}) → SavedStop
+saved_stop line NoLine = stop.BadLine line
+saved_stop line (OutOfOrder cause) = stop.BadState line
+saved_stop line Unended = stop.Unended line
+
+-- the answer for good lines, the first of which has this number, and for how it ends behind them
+abbrev pub saved_answer :
+    ℕ → List SavedLine → Result SavedState (Fault (Unit {0})) → Result SavedState SavedStop
+saved_answer number lines (Ok state) = Ok state
+saved_answer number lines (Err fault) = Err (saved_stop (length lines + number) fault)
+
+-- bytes read as this state, or rejected: good lines with which they begin, and how it ends
+pub record ReadsSaved (bytes : List ℕ) (answer : Result SavedState SavedStop) : Type 0 where
+  pub lines : List SavedLine
+  pub end : Result SavedState (Fault (Unit {0}))
+  pub reads : HasGoodLines saved_kind Before bytes lines end
+  pub answers : answer ≡ saved_answer 1 lines end
+
 -- the last piece, which has no newline
 abbrev pub last_saved_piece : ℕ → SavedPlace → List ℕ → Result SavedState SavedStop
-last_saved_piece number place (b ∷ bs) = Err (stop.BadLine number)
-last_saved_piece number (After state) [] = Ok state
-last_saved_piece number _ [] = Err (stop.Unended number)
-
--- a place or none, and what follows
-abbrev pub after_saved_line :
-    ℕ → Option SavedPlace → (SavedPlace → Result SavedState SavedStop)
-    → Result SavedState SavedStop
-after_saved_line number None others = Err (stop.BadState number)
-after_saved_line number (Some place) others = others place
-
--- a piece with its line or none, and what follows
-abbrev pub one_saved_piece :
-    ℕ → SavedPlace → Option SavedLine → (SavedPlace → Result SavedState SavedStop)
-    → Result SavedState SavedStop
-one_saved_piece number place None others = Err (stop.BadLine number)
-one_saved_piece number place (Some line) others =
-    after_saved_line number (told_saved_line place line) others
+last_saved_piece number place piece = saved_answer number [] (last_end saved_kind place piece)
 
 -- the state of the pieces, each but the last a line
 abbrev pub pieces_state : ℕ → SavedPlace → List (List ℕ) → Result SavedState SavedStop
-pieces_state number place [] = Err (stop.Unended number)
-pieces_state number place (piece ∷ []) = last_saved_piece number place piece
-pieces_state number place (piece ∷ next ∷ pieces) =
-    one_saved_piece number place (saved_line_of piece)
-    (λ p. pieces_state (number + 1) p (next ∷ pieces))
+pieces_state number place pieces =
+    let read = pieces_read saved_kind saved_line_of place pieces in
+    saved_answer number read.lines read.end
 
 -- the state with this text, or the first faulty line, from 1; `Memory` is never the answer
 unfoldable pub saved_of : List ℕ → Result SavedState SavedStop
 saved_of bytes = pieces_state 1 Before (slice_split (λ b. b == 10) bytes)
-
--- the place after these lines; none where one of them doesn't fit
-abbrev pub told_saved_lines : SavedPlace → List SavedLine → Option SavedPlace
-told_saved_lines place [] = Some place
-told_saved_lines place (line ∷ lines) =
-    option_and_then (λ next. told_saved_lines next lines) (told_saved_line place line)
-
--- the bytes begin with a line
-pub record BeginsWithLine (bytes : List ℕ) : Type 0 where
-  pub line : SavedLine
-  pub rest : List ℕ
-  pub text : saved_line_text line ++ rest ≡ bytes
-  pub form : HasSavedForm line
-
--- behind good lines the saved world ends with its state, or line `number` is faulty
-abbrev pub EndsSaved : SavedPlace → ℕ → List ℕ → Result SavedState SavedStop → Type 0
-EndsSaved place number left (Ok state) = (left ≡ []) × (place ≡ After state)
-EndsSaved place number left (Err (stop.BadLine line)) =
-    (line ≡ number) × (left ≢ []) × ¬ BeginsWithLine left
-EndsSaved place number left (Err (stop.BadState line)) =
-    (line ≡ number) × (begin : BeginsWithLine left) × (told_saved_line place begin.line ≡ None)
-EndsSaved place number left (Err (stop.Unended line)) =
-    (line ≡ number) × (left ≡ []) × ((state : SavedState) → place ≢ After state)
-EndsSaved place number left (Err stop.Memory) = ⊥
-
--- bytes read as this state, or rejected: lines that fit, the place after them, and what is left
-pub record ReadsSaved (bytes : List ℕ) (answer : Result SavedState SavedStop) : Type 0 where
-  pub lines : List SavedLine
-  pub place : SavedPlace
-  pub left : List ℕ
-  pub text : flat_map saved_line_text lines ++ left ≡ bytes
-  pub forms : AllByRecursion HasSavedForm lines
-  pub order : told_saved_lines Before lines ≡ Some place
-  pub ends : EndsSaved place (length lines + 1) left answer

@@ -11,8 +11,8 @@ returns-in_err-place c =
     let bad : IsFaultOf e (saved_of c.args.bytes.now) =
     subst (λ (r : Result SavedState SavedStop). IsFaultOf e r) c.loop-behind.invariant.left
     (left_faulty c.loop-behind.number (saved_place_of c.loop-behind.place) c.loop-behind.rest.now
-    c.split_at.result.0.now c.split_at.result.1 c.split_at.ensures.pieces e c.in-Some.behind
-    c.in-Some.is c.in_err-place.ensures) in
+    c.split_at.result.0.now c.split_at.result.1 c.in-Some.behind c.split_at.ensures.pieces
+    c.in-Some.is e c.in_err-place.ensures) in
     subst (λ (r : Result SoFarValue SavedStop). Ends r (saved_of c.args.bytes.now)) (sym is) bad
 
 pub loop-behind-preserved : goal.loop-behind-preserved
@@ -23,8 +23,7 @@ loop-behind-preserved c =
     c.in-Some.is c.split_at.ensures.shorter in
     record {
       left = sym (left_on c.loop-behind.number (saved_place_of c.loop-behind.place) rest
-          c.split_at.result.0.now c.split_at.result.1 c.split_at.ensures.pieces
-          (saved_place_of c.in_ok-place.place) c.in-Some.behind c.in-Some.is c.in_ok-place.ensures)
-          ∙ c.loop-behind.invariant.left;
+          c.split_at.result.0.now c.split_at.result.1 c.in-Some.behind c.split_at.ensures.pieces
+          c.in-Some.is c.in_ok-place.place c.in_ok-place.ensures) ∙ c.loop-behind.invariant.left;
       few = omega (arith, shorter, c.loop-behind.invariant.few);
     }

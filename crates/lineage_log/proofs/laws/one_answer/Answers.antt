@@ -1,6 +1,6 @@
 use Rattle.std.proofs.Common.{List, Result, subst}
 use Rattle.lineage_log.proofs.Prelude.{Line, LogStop, ReadsLog}
-use Rattle.lineage_log.proofs.ReadsLogLemmas.{log_is_read, reads_one_log}
+use Rattle.lineage_log.proofs.LogLaws.{log_is_read, reads_one_log}
 use Rattle.lineage_log.proofs.laws.one_answer.Goals as goal
 
 pub returns : goal.returns
