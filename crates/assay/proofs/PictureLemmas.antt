@@ -3,8 +3,7 @@ use Rattle.std.proofs.Common.{◌≡◌, ◌∙◌, ℕ, Option, None, Some, opt
 use Rattle.census.specs.Counts.{dominant_value}
 use Rattle.census.specs.declared.dominant.Dominant.{Dominant}
 use Rattle.genome.specs.Genome.{letters}
-use Rattle.world_config.specs.Shown.{values_of}
-use Rattle.world_config.specs.Values.{ConfigValues}
+use Rattle.world_config.specs.Values.{values_of, ConfigValues}
 use Rattle.world_core.specs.declared.picture.WorldPicture.{WorldPicture}
 use Rattle.world_rules.specs.Picture.{PictureValue, picture_of}
 use Rattle.assay.specs.Assay.{dominant_after}

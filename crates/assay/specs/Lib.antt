@@ -1,5 +1,3 @@
 pub use Rattle.genome.specs.Genome
-pub use Rattle.world_config.specs.Shown
-pub use Rattle.world_rules.specs.Statistics
-pub use Rattle.world_rules.specs.WorldRun
+pub use Rattle.world_config.specs.Values
 pub mod Assay

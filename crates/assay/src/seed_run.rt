@@ -1,8 +1,7 @@
 // The run of one seed.
 ghost use Rattle.std.specs.Prelude.{◌≡◌, ◌≤◌, IfOk, option_map};
 ghost use Rattle.genome.specs.Genome.{letters};
-ghost use Rattle.world_config.specs.Shown.{values_of};
-ghost use Rattle.world_config.specs.Values.{ConfigValues};
+ghost use Rattle.world_config.specs.Values.{values_of, ConfigValues};
 ghost use Rattle.logged_run.specs.RunText.{IsEndOf};
 ghost use Rattle.assay.specs.Assay.{assay_of_seed, dominant_after, with_seed};
 

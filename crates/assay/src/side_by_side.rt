@@ -1,7 +1,7 @@
 // The runs of several seeds, side by side.
 ghost use Rattle.std.specs.Prelude.{◌≡◌, ◌≤◌, ◌<◌, ℕ, All, IfOk, Ok, length, map, slice_index_or};
 ghost use Rattle.std.specs.List.{range_with_len};
-ghost use Rattle.world_config.specs.Shown.{values_of};
+ghost use Rattle.world_config.specs.Values.{values_of};
 ghost use Rattle.assay.specs.Assay.{assay_list, assay_of_seed};
 
 use crate::assayed::{Assay, Assays};

@@ -25,8 +25,7 @@ pub use Rattle.std.specs.Fmt.{signed_decimal}
 pub use Rattle.std.specs.List.{flat_map, range_with_len}
 pub use Rattle.world_config.specs.Config.{config_of, values_in_table}
 pub use Rattle.world_config.specs.KeyTable.{key_name}
-pub use Rattle.world_config.specs.Shown.{values_of}
-pub use Rattle.world_config.specs.Values.{ConfigValues}
+pub use Rattle.world_config.specs.Values.{values_of, ConfigValues}
 pub use Rattle.world_core.specs.Scenes.{WorldValue, world_in}
 pub use Rattle.world_rules.specs.Descent.{line_in}
 pub use Rattle.world_rules.specs.LogText.{end_text, head_text, log_text}

@@ -1,7 +1,7 @@
 // The parts of a saved world's text (docs/FORMATS.md, "Saved worlds").
 ghost use Rattle.std.specs.Prelude.{◌≡◌, ℕ, ◌+◌, ◌<◌, ◌≤◌, ◌++◌, List, [], None, Ok, Option, length, slice_index_or};
 ghost use Rattle.checkpoint.specs.Prelude.{taken, Occupant, ids_of, count_text, saved_head_text, SavedState, state_of, state_of_world, saved_text, slot_text, saved_of, FitsText, HasRoomFor};
-ghost use Rattle.world_config.specs.Shown.{values_of};
+ghost use Rattle.world_config.specs.Values.{values_of};
 ghost use Rattle.world_rules.specs.WorldRun.{world_after};
 ghost use Rattle.saved_worlds.specs.Resuming.{saved_state_after};
 ghost use Rattle.checkpoint.specs.Reading.{first_cells_text, IsWritable};

@@ -1,6 +1,5 @@
 -- The commands as the parser knows them (docs/FORMATS.md, "The command line").
-use Rattle.std.specs.Prelude.{Bool, true, false, [], ◌∷◌, ◌++◌, List, map, ℕ, codes}
-use Rattle.std.specs.Prelude.{Option, Some, None, option_map}
+use Rattle.std.specs.Prelude.{Bool, true, false, [], ◌∷◌, ◌++◌, List, map, ℕ, codes, Option, Some, None, option_map}
 use Rattle.std.specs.Option.{option_to_list}
 use Rattle.std.specs.Str.{bytes_eq}
 use Rattle.clap.specs.Walk.{Rule, Row, first_of}

@@ -1,7 +1,5 @@
 -- How words are read from left to right (docs/FORMATS.md, "The command line").
-use Rattle.std.specs.Prelude.{ℕ, ◌==◌, ◌&&◌, ◌||◌, Bool, true, false, is_some, is_none, if◌then◌else◌, nat_lt}
-use Rattle.std.specs.Prelude.{List, [], ◌∷◌, ◌++◌, map, length, zip, position, codes}
-use Rattle.std.specs.Prelude.{Option, Some, None, option_and_then, slice_get, slice_set}
+use Rattle.std.specs.Prelude.{ℕ, ◌==◌, ◌&&◌, ◌||◌, Bool, true, false, is_some, is_none, if◌then◌else◌, nat_lt, List, [], ◌∷◌, ◌++◌, map, length, zip, position, codes, Option, Some, None, option_and_then, slice_get, slice_set}
 use Rattle.std.specs.List.{list_any}
 use Rattle.std.specs.Option.{option_or, option_map_or}
 use Rattle.std.specs.Str.{bytes_eq}

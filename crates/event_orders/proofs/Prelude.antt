@@ -19,8 +19,7 @@ pub use Rattle.std.proofs.lemmas.List.FromFn.{fill_by_all, get_or-map-range_with
 pub use Rattle.std.proofs.lemmas.List.Sums.{fold_push, sum_by-append}
 pub use Rattle.std.proofs.lemmas.Option.{get_or_from_slice_get, none-some, same_Some, slice_get-get_or, slice_get_within}
 pub use Rattle.std.specs.List.{AllByRecursion, cons_option, enumerate_from, filter_map, flat_map, range_with_len, zip}
-pub use Rattle.world_config.specs.Shown.{values_of}
-pub use Rattle.world_config.specs.Values.{ConfigValues}
+pub use Rattle.world_config.specs.Values.{values_of, ConfigValues}
 pub use Rattle.world_rules.specs.Lives.{CellLife, life_at, no_life, slice_at}
 unfoldable pub use Rattle.world_rules.specs.Lives.{life_of, lives_of}
 pub use Rattle.world_rules.specs.Picture.{PictureValue}

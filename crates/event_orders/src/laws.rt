@@ -2,7 +2,7 @@
 ghost use Rattle.std.specs.Prelude.{◌≡◌, ℕ, List, map};
 ghost use Rattle.genotype_bank.specs.BankHistory.{HasEachOnce, genotypes_of};
 ghost use Rattle.genotype_bank.specs.declared.view.Entry.{Entry};
-ghost use Rattle.world_config.specs.Shown.{values_of};
+ghost use Rattle.world_config.specs.Values.{values_of};
 ghost use Rattle.world_rules.specs.WorldRun.{world_after};
 ghost use Rattle.event_orders.specs.declared.schedule.ScheduleEvent.{ScheduleEvent};
 ghost use Rattle.event_orders.specs.Orders.{GoesOnWith, IsInterleaving, StartsUpdate, AfterEachGather, IsScheduleFor, LooksNeverFall, ShowsEachUpdate};

@@ -3,8 +3,7 @@ ghost use Rattle.std.specs.Prelude.{◌≡◌, ◌≤◌, IfSome, length, ◌≢
 ghost use Rattle.std.specs.List.{position_from, before_first};
 ghost use Rattle.instruction_set.specs.Letter.{letter_named};
 ghost use Rattle.genome.specs.Genome.{letters};
-ghost use Rattle.genome.specs.GenomeText.{after_blanks, between_blanks, is_bad_line, is_blank, name_lines};
-ghost use Rattle.genome.specs.GenomeText.{names_of, names_text_of, spelled_by_names, word_of_line};
+ghost use Rattle.genome.specs.GenomeText.{after_blanks, between_blanks, is_bad_line, is_blank, name_lines, names_of, names_text_of, spelled_by_names, word_of_line};
 
 use crate::genome::Genome;
 use crate::stop::GenomeStop;

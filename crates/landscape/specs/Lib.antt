@@ -1,3 +1,2 @@
-pub use Rattle.organism.specs.TracedStep
 pub mod Trials
 pub mod Landscape

@@ -8,8 +8,7 @@ use Rattle.lineage_log.specs.LineWalk.{last_end, pieces_read}
 use Rattle.lineage_log.specs.NumberedLines.{Fault}
 use Rattle.lineage_log.specs.Order.{LogPlace, Before}
 use Rattle.lineage_log.specs.Reader.{Reader}
-pub use Rattle.lineage_log.specs.ReadsLog.{lines_text, stop_at, IsGoodLog}
-use Rattle.lineage_log.specs.ReadsLog.{log_kind, log_stop}
+pub use Rattle.lineage_log.specs.ReadsLog.{lines_text, stop_at, IsGoodLog, log_kind, log_stop}
 
 -- the answer for good lines, the first of which has this number, and for how it ends behind them
 abbrev pub log_answer :

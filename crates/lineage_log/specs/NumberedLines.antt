@@ -1,7 +1,6 @@
--- Lines that follow one another, each with its newline, as in a log or a saved world: with which
--- good lines bytes begin, and how they end behind these, well or before a faulty line
--- (docs/FORMATS.md, "Reading a log" and "Reading a saved world"). So the number of the faulty line
--- is one more than there are good ones.
+-- Lines, each with its newline, as in a log or a saved world (docs/FORMATS.md, "Reading a log" and
+-- "Reading a saved world"): with which good lines bytes begin, and how they end behind these, well
+-- or before a faulty line, whose number is one more than there are good ones.
 use Rattle.std.specs.Prelude.{◌≡◌, ◌≢◌, ℕ, List, [], ◌∷◌, ◌++◌, flat_map, Option, Some, None, Result, Ok, Err}
 use Rattle.std.specs.List.{AllByRecursion}
 use Prim.Native.Char.{code}

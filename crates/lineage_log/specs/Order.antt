@@ -6,8 +6,7 @@ use Rattle.log_lines.specs.declared.stats.Stats.{Stats}
 use Rattle.lineage_log.specs.declared.reason.Reason.{Reason}
 use Rattle.lineage_log.specs.declared.reason.Reason.TheVariants.{BadOrder, UnknownParent, BadChange}
 use Rattle.lineage_log.specs.declared.stage.Stage.TheVariants.{Quiet, Dying, Placing, Happening}
-pub use Rattle.lineage_log.specs.NumberedLines.{and_on}
-use Rattle.lineage_log.specs.NumberedLines.{told_each}
+pub use Rattle.lineage_log.specs.NumberedLines.{and_on, told_each}
 use Rattle.lineage_log.specs.Reader.{holds, taken, Reader, may_die, may_be_born, is_quiet, parent_in, reader_with_newcomer, reader_with_death}
 
 -- before the first line, within the log, or after the last line

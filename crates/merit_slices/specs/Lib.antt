@@ -1,3 +1,2 @@
 pub mod Merit
 pub mod Slices
-pub use Rattle.logic_tasks.specs.LogicTasks

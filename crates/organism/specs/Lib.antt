@@ -8,6 +8,4 @@ pub mod UpdateLife
 pub mod Lived
 pub use Rattle.genome.specs.Genome
 pub use Rattle.virtual_cpu.specs.Machine
-pub use Rattle.virtual_cpu.specs.Step
-pub use Rattle.mutations.specs.BirthRecord
 pub use Rattle.random_streams.specs.RandomStream

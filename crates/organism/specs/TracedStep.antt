@@ -3,8 +3,7 @@
 use Rattle.std.specs.Prelude.{ℕ, true, nat_le, if◌then◌else◌, ℤ, List, [], ◌∷◌, None, length}
 use Rattle.organism.specs.Prelude.{RuleNumbers, Letter, Task, letters, letter_under_ip, child_part}
 use Rattle.divide_rules.specs.declared.rule.Rule.{Rule}
-use Rattle.organism.specs.OrganismState.{OrganismState}
-pub use Rattle.organism.specs.OrganismState.{new_organism}
+pub use Rattle.organism.specs.OrganismState.{new_organism, OrganismState}
 use Rattle.organism.specs.Life.{life_step, divide_merit, renewed}
 use Rattle.organism.specs.declared.outcome.Outcome.{Outcome}
 use Rattle.organism.specs.declared.outcome.Outcome.TheVariants as outcome

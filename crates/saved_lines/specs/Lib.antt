@@ -1,8 +1,6 @@
 pub mod Prelude
 -- The files in the order of reading. SavedValues to SavedForms say what a line tells, how it is
 -- written and which values it has. The others say how it is read.
-pub use Rattle.log_lines.specs.LineText
-pub use Rattle.virtual_cpu.specs.View
 pub mod SavedValues
 pub mod SavedText
 pub mod SavedForms

@@ -20,8 +20,7 @@ pub use Rattle.std.proofs.lemmas.List.Elements.{All-filter, recursion_from_All}
 pub use Rattle.std.specs.List.{AllByRecursion, enumerate_from, range_with_len, scan}
 pub use Rattle.world_config.specs.Events.{EventValue, WhatValue, clear, event_fits, event_values, inject, rate, what_fits}
 pub use Rattle.world_config.specs.KeyTable.{Frame, frame_of}
-pub use Rattle.world_config.specs.Shown.{values_of}
-pub use Rattle.world_config.specs.Values.{ConfigValues}
+pub use Rattle.world_config.specs.Values.{values_of, ConfigValues}
 pub use Rattle.world_config.specs.declared.config.Config.{Config}
 pub use Rattle.world_laws.specs.Ranges.{HasFewIds, HaveOwnIds, IsInRange, StandInRange, StayInRange}
 pub use Rattle.world_rules.specs.Lives.{CellLife, cell_life, slice_at}

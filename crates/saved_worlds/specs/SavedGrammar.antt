@@ -14,7 +14,6 @@ use Rattle.saved_worlds.specs.SavedState.{SavedState}
 use Rattle.saved_worlds.specs.declared.saved_stop.SavedStop.{SavedStop}
 use Rattle.saved_worlds.specs.declared.saved_stop.SavedStop.TheVariants as stop
 use Rattle.saved_lines.specs.SavedForms.{HasSavedForm}
-use Rattle.saved_worlds.specs.SavedOrder.{SavedPlace, Before, After, told_saved_line}
 
 -- the state, once the last line has come
 abbrev pub last_state : SavedPlace → Option SavedState

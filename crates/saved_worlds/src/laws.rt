@@ -1,7 +1,7 @@
 // A saved world goes on as its run would have (docs/WORLD.md, "Saved worlds").
 ghost use Rattle.std.specs.Prelude.{◌≡◌, ℕ, ◌+◌, ◌++◌, ◌<◌, ◌≤◌, ◌↔◌, List, Result};
 ghost use Rattle.lineage_log.specs.LogGrammar.{lines_text};
-ghost use Rattle.world_config.specs.Shown.{values_of};
+ghost use Rattle.world_config.specs.Values.{values_of};
 ghost use Rattle.world_rules.specs.LogText.{head_text, log_text, update_lines, updates_text};
 ghost use Rattle.world_rules.specs.Update.{next_world};
 ghost use Rattle.world_rules.specs.World.{World};

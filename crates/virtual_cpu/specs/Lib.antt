@@ -11,6 +11,3 @@ pub mod Effects
 pub mod OperandUse
 pub mod Step
 pub use Rattle.genome.specs.Genome
-pub use Rattle.label_search.specs.Template
-pub use Rattle.label_search.specs.Search
-pub use Rattle.label_search.specs.Site

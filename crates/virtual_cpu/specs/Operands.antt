@@ -1,6 +1,6 @@
 -- Modifiers and templates (docs/MACHINE.md, "Modifiers", "Templates").
-use Rattle.std.specs.Prelude.{◌+◌, ◌%◌, Option, Some, None, List, [], ◌∷◌, length}
-use Rattle.virtual_cpu.specs.Prelude.{Letter, NopA, NopB, NopC, template_after}
+use Rattle.std.specs.Prelude.{◌+◌, ◌%◌, Option, Some, None, List, [], ◌∷◌, length, if◌then◌else◌}
+use Rattle.virtual_cpu.specs.Prelude.{Letter, NopA, NopB, NopC, is_nop, template_after}
 use Rattle.virtual_cpu.specs.declared.registers.Register.{Register}
 use Rattle.virtual_cpu.specs.declared.registers.Register.TheVariants.{Ax, Bx, Cx}
 use Rattle.virtual_cpu.specs.declared.heads.Head.{Head}
@@ -9,10 +9,7 @@ use Rattle.virtual_cpu.specs.Machine.{Machine, letter_in_memory, place_after, wi
 
 -- the letter where it is a nop
 abbrev pub as_nop : Letter → Option Letter
-as_nop NopA = Some NopA
-as_nop NopB = Some NopB
-as_nop NopC = Some NopC
-as_nop _ = None
+as_nop letter = if is_nop letter then Some letter else None
 
 -- the nop at the place after IP, across the end
 abbrev pub modifier_of : Machine → Option Letter

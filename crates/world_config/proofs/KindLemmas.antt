@@ -1,6 +1,5 @@
 -- What the kind of a row accepts.
-use Rattle.std.proofs.Common.{◌≡◌, ℕ, ◌≤◌, List, length, None, Ok, pos, refl, ap, ◌∙◌, arith}
-use Rattle.std.proofs.Common.{le-leb}
+use Rattle.std.proofs.Common.{◌≡◌, ℕ, ◌≤◌, List, length, None, Ok, pos, refl, ap, ◌∙◌, arith, le-leb}
 use Rattle.world_config.proofs.Prelude.{Data, string, integer, boolean, array, Letter, spelled_by_letters, Key, Kind, number, flag, genome, events, item_count, refusal_of, unless_genome, unless_within}
 use Rattle.mutations.specs.RecordForm.{IsWithin}
 

@@ -1,6 +1,5 @@
 -- The members of a table and of an array beside the values that they stand for.
-use Rattle.std.proofs.Common.{◌≡◌, ℕ, ◌+◌, ◌<◌, Bool, List, [], ◌∷◌, ◌++◌, map, length, drop}
-use Rattle.std.proofs.Common.{get_or, Some, None, Result, Ok, Err, string_bytes, refl, sym}
+use Rattle.std.proofs.Common.{◌≡◌, ℕ, ◌+◌, ◌<◌, Bool, List, [], ◌∷◌, ◌++◌, map, length, drop, get_or, Some, None, Result, Ok, Err, string_bytes, refl, sym}
 use Rattle.world_config.proofs.Prelude.{list_any, list_all, bytes_eq, Value, view, items_view, members_view, Entry, items_view-drop, Frame, EventValue, event_of, events_from, events_of, followed, has_only, more_events}
 use Rattle.std.specs.Borrow.{Bor}
 

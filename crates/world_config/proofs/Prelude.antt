@@ -30,8 +30,7 @@ pub use Rattle.world_config.specs.Prelude.{AllPass, Data, Items, Letter, Members
 pub use Rattle.world_config.specs.Printing.{members_for, with_keys}
 pub use Rattle.world_config.specs.Refusal.{first_refusal, least_of, least_unknown, refusal_of, unless_genome, unless_within}
 unfoldable pub use Rattle.world_config.specs.Refusal.{is_known, refusal_at}
-pub use Rattle.world_config.specs.Shown.{values_of}
-pub use Rattle.world_config.specs.Values.{ConfigValues, values_in_table}
+pub use Rattle.world_config.specs.Values.{values_of, ConfigValues, values_in_table}
 pub use Rattle.world_config.specs.declared.key.Key.{Key}
 pub use Rattle.world_config.specs.declared.key.Key.TheVariants.{Ancestor, Event}
 pub use Rattle.world_config.specs.declared.stop.ConfigStop.{ConfigStop}

@@ -1,7 +1,5 @@
 -- An insert into a table beside one into the members that it stands for.
-use Rattle.std.proofs.Common.{◌≡◌, ℕ, ◌+◌, ◌<◌, List, [], ◌∷◌, ◌++◌, length, map, take, get_or}
-use Rattle.std.proofs.Common.{String, Global, string_bytes, refl, ◌∙◌, Ordering, Less, Equal}
-use Rattle.std.proofs.Common.{Greater}
+use Rattle.std.proofs.Common.{◌≡◌, ℕ, ◌+◌, ◌<◌, List, [], ◌∷◌, ◌++◌, length, map, take, get_or, String, Global, string_bytes, refl, ◌∙◌, Ordering, Less, Equal, Greater}
 use Rattle.world_config.proofs.Prelude.{match_ordering, map-append, take_more, string_cmp, Value, push_item, table, view, items_view, members_view, Entry, items_view-push, EventValue, event_value, what_value, event_members, insert_member, items_for}
 use Rattle.std.specs.BTreeMap.{insert_entry}
 use Rattle.world_config.specs.declared.event.Event.{Event}

@@ -1,6 +1,5 @@
 -- The least unknown key of a table whose keys ascend is the first.
-use Rattle.std.proofs.Common.{◌≡◌, ℕ, false, not, List, [], ◌∷◌, Option, Some, None, option_map}
-use Rattle.std.proofs.Common.{String, Global, string_bytes, refl, Less, nat_cmp, inl, inr}
+use Rattle.std.proofs.Common.{◌≡◌, ℕ, false, not, List, [], ◌∷◌, Option, Some, None, option_map, String, Global, string_bytes, refl, Less, nat_cmp, inl, inr}
 use Rattle.world_config.proofs.Prelude.{find, AllByRecursion, IsStrictlySortedBy, is_lt, slice_cmp, string_cmp, cases_Bool, members_view, Entry, is_known, least_of, least_unknown}
 use Rattle.std.specs.Bool.{⊤}
 use Rattle.std.specs.Map.{keys_of}

@@ -11,8 +11,7 @@ use Rattle.world_config.specs.Lookup.{items_at, frame_in}
 use Rattle.world_config.specs.Refusal.{refusal_in}
 use Rattle.world_config.specs.Events.{EventValue}
 use Rattle.world_config.specs.EventForms.{events_of}
-use Rattle.world_config.specs.Values.{ConfigValues}
-pub use Rattle.world_config.specs.Values.{values_in_table}
+pub use Rattle.world_config.specs.Values.{values_in_table, ConfigValues}
 
 -- what a table says with the events that were read, or the refusal of the nth member of its array
 abbrev pub values_with : Members → Result (List EventValue) ℕ → Result ConfigValues ConfigStop

@@ -4,14 +4,12 @@ pub mod Prelude
 -- are read as.
 pub use Rattle.toml.specs.Data
 pub use Rattle.genome.specs.Genome
-pub use Rattle.genome.specs.GenomeText
 pub mod KeyTable
 pub mod Lookup
 pub mod Refusal
 pub mod Events
 pub mod EventForms
 pub mod Values
-pub mod Shown
 pub mod Config
 pub mod EventTables
 pub mod Groups

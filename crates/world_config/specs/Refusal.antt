@@ -1,15 +1,12 @@
 -- What refuses a configuration (docs/FORMATS.md, "The configuration"): a key without a row, then
 -- the first key whose value is not what its row asks, as `width = 0`; `width = 0` with `wide = 1`
 -- is refused for `wide`. None is no refusal. Config has the refusal of an event.
-use Rattle.std.specs.Prelude.{ℕ, ℤ, pos, negsuc, Bool, ◌&&◌, nat_le, if◌then◌else◌}
-use Rattle.std.specs.Prelude.{List, [], ◌∷◌, length, Option, Some, None, Result, Ok, Err}
+use Rattle.std.specs.Prelude.{ℕ, ℤ, pos, negsuc, Bool, ◌&&◌, nat_le, if◌then◌else◌, List, [], ◌∷◌, length, Option, Some, None, Result, Ok, Err}
 use Rattle.world_config.specs.Prelude.{list_any, option_map, option_or, nat_cmp, is_lt, slice_cmp, bytes_eq, Data, string, integer, boolean, array, Members, no_members, member, Letter, GenomeStop, spelled_by_letters}
 use Rattle.world_config.specs.declared.key.Key.{Key}
 use Rattle.world_config.specs.declared.stop.ConfigStop.{ConfigStop}
-use Rattle.world_config.specs.declared.stop.ConfigStop.TheVariants.{UnknownKey, WrongKind}
-use Rattle.world_config.specs.declared.stop.ConfigStop.TheVariants.{OutOfRange, BadAncestor}
-use Rattle.world_config.specs.KeyTable.{Kind, number, flag, genome, events}
-use Rattle.world_config.specs.KeyTable.{Frame, key_row, key_name, keys}
+use Rattle.world_config.specs.declared.stop.ConfigStop.TheVariants.{UnknownKey, WrongKind, OutOfRange, BadAncestor}
+use Rattle.world_config.specs.KeyTable.{Kind, number, flag, genome, events, Frame, key_row, key_name, keys}
 use Rattle.world_config.specs.Lookup.{value_at, item_count, frame_in}
 
 -- a row of the table of keys has this name

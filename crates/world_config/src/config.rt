@@ -72,7 +72,7 @@ impl Config {
     ghost use Rattle.world_config.specs.Lookup.{genome_at};
     ghost use Rattle.world_config.specs.Config.{config_in, values_in_table};
     ghost use Rattle.world_config.specs.Groups.{AreNumbers, numbers_frame, printed_at};
-    ghost use Rattle.world_config.specs.Shown.{values_of};
+    ghost use Rattle.world_config.specs.Values.{values_of};
 
     /// The configuration of these numbers, with this ancestor and these events.
     pub(crate) fn of_numbers(numbers: &Numbers, ancestor: Genome, event: Events) -> Config

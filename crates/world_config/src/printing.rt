@@ -3,7 +3,7 @@ ghost use Rattle.std.specs.Prelude.{◌≡◌, Ok, IfOk, string_bytes};
 ghost use Rattle.world_config.specs.Prelude.{table_view};
 ghost use Rattle.world_config.specs.Config.{config_of};
 ghost use Rattle.world_config.specs.Printing.{members_for};
-ghost use Rattle.world_config.specs.Shown.{values_of};
+ghost use Rattle.world_config.specs.Values.{values_of};
 
 use crate::config::Config;
 use crate::event_tables::put;

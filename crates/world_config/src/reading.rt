@@ -1,6 +1,5 @@
 // Reading a document.
-ghost use Rattle.std.specs.Prelude.{◌≡◌, ◌≢◌, ◌≤◌, ℕ, None, Some, Ok, Err, IfOk, IfErr, OnOk};
-ghost use Rattle.std.specs.Prelude.{length};
+ghost use Rattle.std.specs.Prelude.{◌≡◌, ◌≢◌, ◌≤◌, ℕ, None, Some, Ok, Err, IfOk, IfErr, OnOk, length};
 ghost use Rattle.world_config.specs.Prelude.{array, no_items, string, items_view, table_view, letters, spelled_by_letters, IsWithin};
 ghost use Rattle.world_config.specs.declared.key.Key.{Key};
 ghost use Rattle.world_config.specs.KeyTable.{default_ancestor, events, genome, keys};
@@ -8,7 +7,7 @@ ghost use Rattle.world_config.specs.Config.{config_in, config_of, unless_refused
 ghost use Rattle.world_config.specs.Lookup.{frame_in, items_at, letters_of_value, value_or};
 ghost use Rattle.world_config.specs.Refusal.{first_refusal, refusal_of, unless_genome};
 ghost use Rattle.world_config.specs.EventForms.{events_of};
-ghost use Rattle.world_config.specs.Shown.{values_of};
+ghost use Rattle.world_config.specs.Values.{values_of};
 
 use crate::config::Config;
 use crate::event_forms::events;

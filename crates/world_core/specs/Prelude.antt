@@ -23,8 +23,7 @@ pub use Rattle.std.specs.List.{All, enumerate_from, flat_map, sum_by, zip}
 pub use Rattle.std.specs.List.Sorted.{IsNonDecreasing, IsPermutation}
 pub use Rattle.std.specs.Option.{option_to_list}
 pub use Rattle.world_config.specs.Events.{WhatValue, clear, inject, rate, what_value}
-pub use Rattle.world_config.specs.Shown.{values_of}
-pub use Rattle.world_config.specs.Values.{ConfigValues}
+pub use Rattle.world_config.specs.Values.{values_of, ConfigValues}
 pub use Rattle.world_laws.specs.Ranges.{LiveOn}
 pub use Rattle.world_rules.specs.Lives.{CellLife, lives_of, merit_in, with_id}
 pub use Rattle.world_rules.specs.LogText.{birth_line, birth_lines, cleared_line, end_text, event_lines, head_text, update_lines, update_text, what_lines}

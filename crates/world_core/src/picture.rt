@@ -20,7 +20,7 @@ pub struct ConfigShown {
 }
 
 impl Model for ConfigShown {
-    ghost use Rattle.world_config.specs.Shown.{values_of};
+    ghost use Rattle.world_config.specs.Values.{values_of};
     ghost use Rattle.world_config.specs.Values.{ConfigValues};
 
     ghost Value = { ConfigValues };
@@ -49,7 +49,7 @@ pub struct WorldPicture {
 }
 
 impl Picture for WorldPicture {
-    ghost use Rattle.world_config.specs.Shown.{values_of};
+    ghost use Rattle.world_config.specs.Values.{values_of};
 
     type Of = ConfigShown;
 

@@ -37,7 +37,7 @@ impl Model for State {
     ghost Value = { SavedState };
 
     ghost use Rattle.std.specs.Prelude.{◌≤◌};
-    ghost use Rattle.world_config.specs.Shown.{values_of};
+    ghost use Rattle.world_config.specs.Values.{values_of};
     ghost use Rattle.world_core.specs.Scenes.{IsState, state_in};
 
     ghost view = { λ s. state_in (values_of s.config.value) s.scene };

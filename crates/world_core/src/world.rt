@@ -38,7 +38,7 @@ pub(crate) struct Present {
 
 impl Model for Present {
     ghost use Rattle.std.specs.Prelude.{◌≤◌};
-    ghost use Rattle.world_config.specs.Shown.{values_of};
+    ghost use Rattle.world_config.specs.Values.{values_of};
     ghost use Rattle.world_core.specs.Scenes.{WorldValue, IsWorldOf};
 
     ghost Value = { WorldValue };

@@ -44,7 +44,7 @@ pub use Rattle.std.specs.Option.{option_to_list}
 pub use Rattle.virtual_cpu.specs.Machine.{Machine, letter_under_ip}
 pub use Rattle.virtual_cpu.specs.Step.{KeepsLimits, step}
 pub use Rattle.world_config.specs.Events.{EventValue, WhatValue, clear, event_fits, event_values, inject, rate, what_fits}
-pub use Rattle.world_config.specs.Shown.{values_of}
+pub use Rattle.world_config.specs.Values.{values_of}
 pub use Rattle.world_laws.specs.Bounds.{FitsWhat, IsConfig, size_of}
 pub use Rattle.world_laws.specs.LowerLaws.{LifeLaws, LineLaws}
 pub use Rattle.world_laws.specs.Prelude.{AllByRecursion, AreNumbered, AreRules, Birth, ConfigValues, Injected, IsNumberedWorld, IsSoundOrganism, LifeState, Line, Link, Occupant, OrganismState, Scene, SettingNumbers, World, beginning, descent_line_of, descent_lines_of, draw, line_of_parent}

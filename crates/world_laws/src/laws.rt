@@ -2,7 +2,7 @@
 ghost use Rattle.std.specs.Prelude.{◌≡◌, ℕ, ◌+◌, ◌*◌, ◌≤◌, ◌^◌, All, IfSome, List, Some, map, slice_get, sum, ◌<◌};
 ghost use Rattle.world_laws.specs.Prelude.{Line, IsSoundOrganism, SettingNumbers, LifeState, life, ConfigValues, line_in, Occupant, World, world_after};
 ghost use Rattle.lineage_log.specs.LogGrammar.{Reads};
-ghost use Rattle.world_config.specs.Shown.{values_of};
+ghost use Rattle.world_config.specs.Values.{values_of};
 ghost use Rattle.world_rules.specs.LogText.{ReplaysToLiving, log_text};
 ghost use Rattle.world_rules.specs.Lives.{merit_in};
 ghost use Rattle.world_rules.specs.Update.{next_scene, next_world};

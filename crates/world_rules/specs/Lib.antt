@@ -1,11 +1,6 @@
 pub mod Prelude
 -- The files in the order of reading: from a world, by its lives and the scenes within an update, to
 -- the world and the log after so many updates.
-pub use Rattle.birth_board.specs.Placement
-pub use Rattle.lineage_log.specs.LogGrammar
-pub use Rattle.lineage_log.specs.Replay
-pub use Rattle.log_lines.specs.LineText
-pub use Rattle.organism.specs.UpdateLife
 pub use Rattle.world_config.specs.Values
 pub mod World
 pub mod Settings

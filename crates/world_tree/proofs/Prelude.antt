@@ -7,8 +7,7 @@ pub use Rattle.std.proofs.lemmas.Bool.{cases_Bool, cases_lt}
 pub use Rattle.std.proofs.lemmas.List.{length-replicate, length-take, length_push, take-append-drop, take_all, take_more}
 pub use Rattle.std.proofs.lemmas.List.Elements.{All-filter, Contains-append_left, Contains-get_or, Contains-push, Contains-push_cases, filter_passes}
 pub use Rattle.std.proofs.lemmas.Option.{get_or_from_slice_get, option_and_then_some, slice_get-get_or, slice_get_within}
-pub use Rattle.world_config.specs.Shown.{values_of}
-pub use Rattle.world_config.specs.Values.{ConfigValues}
+pub use Rattle.world_config.specs.Values.{values_of, ConfigValues}
 pub use Rattle.world_laws.proofs.ListLemmas.{get_dropped, get_left, get_written}
 pub use Rattle.world_laws.specs.Turnover.{HasBeen, HasGone, IsStanding, IsTurnover}
 pub use Rattle.world_rules.specs.Descent.{AreNumbered, IsBelow, IsNumberedWorld, descent_line_of, descent_lines_of, line_of_parent}

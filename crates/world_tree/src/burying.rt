@@ -1,6 +1,6 @@
 // Those that died in an update leave the tree.
 ghost use Rattle.std.specs.Prelude.{◌≡◌, ◌+◌};
-ghost use Rattle.world_config.specs.Shown.{values_of};
+ghost use Rattle.world_config.specs.Values.{values_of};
 ghost use Rattle.world_rules.specs.WorldRun.{world_after};
 ghost use Rattle.world_tree.specs.WorldTrees.{HasBuried, IsTreeOf, scene_after};
 

@@ -1,7 +1,7 @@
 // The tree of a world.
 ghost use Rattle.std.specs.Prelude.{◌≡◌, ◌+◌, Contains, IfOk, OnOk, length};
 ghost use Rattle.genome.specs.Genome.{letters};
-ghost use Rattle.world_config.specs.Shown.{values_of};
+ghost use Rattle.world_config.specs.Values.{values_of};
 ghost use Rattle.world_rules.specs.Descent.{IsNumberedWorld, descent_line_of};
 ghost use Rattle.world_rules.specs.World.{World};
 ghost use Rattle.world_rules.specs.WorldRun.{world_after};

@@ -1,4 +1,4 @@
-use Rattle.world_config.specs.Shown.{values_of}
+use Rattle.world_config.specs.Values.{values_of}
 use Rattle.assay.proofs.seed_run.run_seed.Goals as goal
 
 pub returns : goal.returns

@@ -1,5 +1,5 @@
 use Rattle.std.proofs.Common.{◌∙◌, ap, map}
-use Rattle.world_config.specs.Shown.{values_of}
+use Rattle.world_config.specs.Values.{values_of}
 use Rattle.assay.specs.Assay.{assay_list, assay_of_seed}
 use Rattle.assay.proofs.SeedLemmas.{runs_are}
 use Rattle.assay.proofs.side_by_side.assay.Goals as goal

@@ -1,6 +1,6 @@
 use Rattle.std.proofs.Common.{◌≡◌, ℕ, rules, sym, subst, get_or, IfOk}
 use Rattle.std.proofs.lemmas.Result.{IfOk-weaker}
-use Rattle.world_config.specs.Shown.{values_of}
+use Rattle.world_config.specs.Values.{values_of}
 use Rattle.assay.specs.Assay.{assay_of_seed}
 use Rattle.assay.proofs.side_by_side.run_seeds.Goals as goal
 

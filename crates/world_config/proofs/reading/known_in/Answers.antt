@@ -1,10 +1,7 @@
 use Rattle.std.proofs.Common.{◌∙◌, ap, Ok}
 use Rattle.world_config.proofs.Prelude.{err_from_is_err_and, items_view, table_view, event_values, numbers_frame}
 use Rattle.world_config.proofs.EventLemmas.{AreEvents-read}
-use Rattle.world_config.proofs.RefusalLemmas.{accepted_values, genome_at-ancestor}
-use Rattle.world_config.proofs.RefusalLemmas.{item_count_of_view}
-use Rattle.world_config.proofs.RefusalLemmas.{refused_by_ancestor, refused_by_events}
-use Rattle.world_config.proofs.RefusalLemmas.{refused_by_members}
+use Rattle.world_config.proofs.RefusalLemmas.{accepted_values, genome_at-ancestor, item_count_of_view, refused_by_ancestor, refused_by_events, refused_by_members}
 use Rattle.world_config.proofs.reading.known_in.Goals as goal
 
 pub returns-in_err-ancestor-clause-refused : goal.returns-in_err-ancestor-clause-refused

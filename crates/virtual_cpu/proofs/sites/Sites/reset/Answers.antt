@@ -1,6 +1,5 @@
-use Rattle.std.proofs.Common.{◌∙◌, ap}
+use Rattle.std.proofs.Common.{◌∙◌, ap, map, take}
 use Rattle.std.specs.Prelude.{vec_capacity}
-use Rattle.std.proofs.Common.{map, take}
 use Rattle.virtual_cpu.proofs.Prelude.{Site, letters_of, SiteLists, fresh_site, fresh_lists}
 use Rattle.virtual_cpu.proofs.SiteLemmas.{lists-reset}
 use Rattle.virtual_cpu.proofs.sites.Sites.reset.Goals as goal
