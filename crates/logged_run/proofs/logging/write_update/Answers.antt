@@ -8,8 +8,8 @@ returns-in_err-next-clause-text g c =
     rw (p.1, p.2) (nothing_written (g.O.Sink.seen c.args.out.now)
     (update_text c.args.world.config (c.args.world.update + 1)))
 
-pub returns-in-Err-clause-text : goal.returns-in-Err-clause-text
-returns-in-Err-clause-text g c =
+pub returns-clause-text : goal.returns-clause-text
+returns-clause-text g c =
     put_ended (update_text c.args.world.config (c.args.world.update + 1)) c.in-Err.ensures.puts
     (c.deref.ensures.value ∙ c.in_ok-next.ensures.text)
 
