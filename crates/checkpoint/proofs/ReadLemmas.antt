@@ -2,7 +2,7 @@
 use Rattle.std.proofs.Common.{◌≡◌, ℕ, ◌+◌, List, ◌∷◌, Option, Some, Ok, Err, Bor, refl}
 use Rattle.checkpoint.proofs.Prelude.{saved_line_of, SavedLine, SavedPlace, told_saved_line, pieces_state, SavedStop, cut, IsFaultOf, Steps, saved_place_of}
 use Rattle.checkpoint.specs.declared.place.ReadPlace as code
-use Rattle.log_lines.proofs.FieldLaws.{some_then}
+use Rattle.genome.proofs.ListLemmas.{some_then}
 use Rattle.log_lines.specs.Words.{pieces_of}
 use Rattle.saved_worlds.proofs.ReadsSavedLemmas.{piece_bad, piece_none, piece_on}
 use Rattle.saved_worlds.specs.declared.saved_stop.SavedStop.TheVariants as stop
