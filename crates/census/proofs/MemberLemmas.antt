@@ -1,7 +1,6 @@
 -- The dominant genotype of a list is that of each list with the same members.
 use Rattle.std.proofs.Common.{◌≡◌, ◌∙◌, refl, sym, ap, ℕ, zero, suc, ◌<◌, Bool, true, not, List, [], ◌∷◌, length, get_or, Option, Some, None, map, Less, Equal, Greater, arith, inl, inr}
 use Rattle.std.specs.Prelude.{find}
-use Rattle.std.specs.Bool.{Decides}
 use Rattle.std.specs.FinMap.{nat_cmp-IsAntisymmetric, slice_cmp-IsAntisymmetric}
 use Rattle.std.specs.List.{AllPass, Contains, list_all}
 use Rattle.std.specs.Ordering.{nat_cmp, ordering_then, ordering_reverse, is_lt}
@@ -12,7 +11,8 @@ use Rattle.std.proofs.lemmas.Grind.{common_steps}
 use Rattle.std.proofs.lemmas.List.Elements.{Contains-get_or}
 use Rattle.std.proofs.lemmas.List.Sums.{AllPass-from_list_all, list_all-from_AllPass}
 use Rattle.instruction_set.specs.declared.letter.Letter.{Letter}
-use Rattle.instruction_set.specs.Letter.{index_of, same_letter}
+use Rattle.instruction_set.proofs.LetterLemmas.{OneIndex}
+use Rattle.instruction_set.specs.Letter.{index_of}
 use Rattle.census.specs.Counts.{GenotypeCount, HaveSameMembers, dominance_cmp, dominant_among, letters_cmp, outranks}
 use Rattle.census.proofs.DominanceLemmas.{dominance-total}
 
@@ -37,10 +37,6 @@ finds p (x ∷ xs) (suc k) d within passes = elim (cases_Bool (p x)) [
   | inr here ↦ (let rest = finds p xs k d (omega (arith, within)) passes in
       (rest.0, rw here rest.1))
 ]
-
--- two letters with one index are one
-abbrev pub OneIndex : Type 0
-OneIndex = (letter other : Letter) → Decides (same_letter letter other) (letter ≡ other)
 
 -- two lists of letters with the same indexes are one list
 letters-of_indexes : OneIndex → (ls others : List Letter) → map index_of ls ≡ map index_of others

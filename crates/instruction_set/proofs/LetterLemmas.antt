@@ -123,9 +123,12 @@ letter_named-None name = by (letter_named name) refl where
   by (Some letter) is =
       (λ none. cc, λ nobody. absurd (nobody letter (letter_named-name_of name letter is)))
 
+-- the test of two letters tells which are one
+abbrev pub OneIndex : Type 0
+OneIndex = (letter other : Letter) → Decides (same_letter letter other) (letter ≡ other)
+
 -- letters with one index are one letter
-pub same_letter-Decides : (letter other : Letter)
-    → Decides (same_letter letter other) (letter ≡ other)
+pub same_letter-Decides : OneIndex
 same_letter-Decides letter other =
     let same = Decides-eqb (index_of letter) (index_of other) in (
       λ equal. let found : Some letter ≡ Some other = sym (found_again letter).by_index

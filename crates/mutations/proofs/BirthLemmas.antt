@@ -1,12 +1,11 @@
 -- The record of a birth and the child that it makes.
 use Rattle.std.proofs.Common.{◌≡◌, refl, sym, ℕ, inl, inr, List, [], length, Ok, unwrap_or, Option, IsNone, ◌↔◌}
-use Rattle.mutations.proofs.Prelude.{Decides, Letter, same_letters, Stream, word_of, Change, RateNumbers, LengthRange, Insertion, Deletion, Drawn, in_turn, pointed_text, after_points, points_from, Draft, indels, draft_after, drawn_by_divide, written_of, child_of, Makes, PassState, Passed}
+use Rattle.mutations.proofs.Prelude.{OneIndex, Decides, Letter, same_letters, Stream, word_of, Change, RateNumbers, LengthRange, Insertion, Deletion, Drawn, in_turn, pointed_text, after_points, points_from, Draft, indels, draft_after, drawn_by_divide, written_of, child_of, Makes, PassState, Passed}
 use Rattle.std.proofs.lemmas.Bool.{cases_Bool}
 use Rattle.std.proofs.lemmas.Slice.Eq.{slice_eq-Decides}
 use Rattle.mutations.proofs.ChangeLemmas.{Passed-append}
 use Rattle.mutations.proofs.IndelKinds.{indels-kind}
 use Rattle.mutations.proofs.IndelPasses.{draft-passed}
-use Rattle.mutations.proofs.PointLemmas.{OneIndex}
 
 -- what is drawn by a stream and a length goes on with equal ones
 moved : (F : Stream → ℕ → Drawn) (stream there : Stream) (len size : ℕ) (from to : PassState)

@@ -1,12 +1,11 @@
 -- Records that words draw have the form of a record in a log.
 use Rattle.std.proofs.Common.{◌≡◌, refl, ◌∙◌, ap, ℕ, ◌+◌, ◌<◌, ◌≤◌, ◌^◌, Bool, true, false, cond, ◌&&◌, List, [], ◌∷◌, ◌++◌, length, append_assoc, Ok, None, Some, arith, IfSome}
-use Rattle.mutations.proofs.Prelude.{AllByRecursion, Letter, same_letter, same_letters, Change, Point, Insert, Delete, Place, Length, text_after, with_change, has_place, is_genome_length, AreTextsOfChild, RateNumbers, LengthRange, Insertion, Deletion, Drawn, pointed_text, after_points, points_from, Draft, indels, draft_after, drawn_by_divide, origin_of}
+use Rattle.mutations.proofs.Prelude.{OneIndex, AllByRecursion, Letter, same_letter, same_letters, Change, Point, Insert, Delete, Place, Length, text_after, with_change, has_place, is_genome_length, AreTextsOfChild, RateNumbers, LengthRange, Insertion, Deletion, Drawn, pointed_text, after_points, points_from, Draft, indels, draft_after, drawn_by_divide, origin_of}
 use Rattle.std.proofs.lemmas.Bool.Decides.{nat_tests}
 use Rattle.mutations.specs.RecordForm.{HasGenomeLength, IsSmall, FitsChange, change_may_follow, in_order, HasRecordForm}
 use Rattle.mutations.proofs.ChangeLemmas.{step-made}
 use Rattle.mutations.proofs.IndelLemmas.{IsIndel}
 use Rattle.mutations.proofs.IndelKinds.{indels-kind}
-use Rattle.mutations.proofs.PointLemmas.{OneIndex}
 use Rattle.mutations.proofs.LawLemmas.{Child, drawn_by_divide-child}
 
 -- a genome's length

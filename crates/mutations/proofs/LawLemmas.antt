@@ -1,11 +1,11 @@
 -- Each record that words draw applies, and its child has a length within the limits.
 use Rattle.std.proofs.Common.{◌≡◌, refl, sym, ap, subst, ℕ, suc, ◌+◌, ◌*◌, ◌<◌, ◌≤◌, ◌^◌, eqb, ◌&&◌, List, [], ◌∷◌, ◌++◌, length, IsOkAnd, arith, append_assoc, length-append, lit<}
-use Rattle.mutations.proofs.Prelude.{Letter, IsGenome, hits, scaled, Indel, Insertion, Deletion, IndelTest, letter_of_word, after_error, Drawn, none_by, in_turn, site_text, pointed_text, after_points, points_from, AreTextsOfChild, IsLengthWithin, RateNumbers, LengthRange, Draft, Spot, has_room, place_count, length_after, test_range, test_at, site_rate, single_rate, site_indel, indels_from, site_indels, single_indel, single_spot, indels, drawn_by_divide, origin_of, child_of, Makes, Fits}
+use Rattle.mutations.proofs.Prelude.{OneIndex, Letter, IsGenome, hits, scaled, Indel, Insertion, Deletion, IndelTest, letter_of_word, after_error, Drawn, none_by, in_turn, site_text, pointed_text, after_points, points_from, AreTextsOfChild, IsLengthWithin, RateNumbers, LengthRange, Draft, Spot, has_room, place_count, length_after, test_range, test_at, site_rate, single_rate, site_indel, indels_from, site_indels, single_indel, single_spot, indels, drawn_by_divide, origin_of, child_of, Makes, Fits}
 use Rattle.std.proofs.Math.Nat.{div-lt_iff_lt-mul, mul-le-mul_left}
 use Rattle.mutations.proofs.ChangeLemmas.{Makes-append, Makes-none}
 use Rattle.mutations.proofs.IndelLemmas.{changes-resize, length_after-is, place-after, picked, second-passes, Room, with_indel, Makes-indel, Fits-indel, front_after, with_indel-middle, Room-middle, Makes-kept}
 use Rattle.mutations.proofs.IndelKinds.{AreOfKind, site_indel-kind, site_indels-kind, indels-kind}
-use Rattle.mutations.proofs.PointLemmas.{OneIndex, points-make}
+use Rattle.mutations.proofs.PointLemmas.{points-make}
 use Rattle.mutations.proofs.BirthLemmas.{written_of-clean}
 
 -- tests of places leave the length

@@ -1,11 +1,7 @@
 -- Points make a text of the clean one.
 use Rattle.std.proofs.Common.{◌≡◌, refl, ap, ℕ, ◌+◌, ◌<◌, Bool, true, false, cond, List, [], ◌∷◌, ◌++◌, length, set, arith, append_assoc, length-append, length-set}
-use Rattle.mutations.proofs.Prelude.{Decides, common_steps, IsGenome, Letter, same_letter, Change, Point, with_change, is_genome_length, Makes, points_from}
+use Rattle.mutations.proofs.Prelude.{OneIndex, common_steps, IsGenome, Letter, same_letter, Change, Point, with_change, is_genome_length, Makes, points_from}
 use Rattle.mutations.proofs.ChangeLemmas.{Makes-append, Makes-one, Makes-none}
-
--- the test of two letters tells which are one
-abbrev pub OneIndex : Type 0
-OneIndex = (letter other : Letter) → Decides (same_letter letter other) (letter ≡ other)
 
 -- a letter in the middle of a text
 pub set-middle : (front rest : List Letter) (was letter : Letter)

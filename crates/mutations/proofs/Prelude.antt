@@ -1,5 +1,6 @@
 -- What the proofs of this crate cite from outside most often, passed on from one place.
 pub use Rattle.genome.specs.Genome.{IsGenome, letters}
+pub use Rattle.instruction_set.proofs.LetterLemmas.{OneIndex}
 pub use Rattle.instruction_set.specs.Letter.{same_letter, same_letters}
 pub use Rattle.instruction_set.specs.declared.letter.Letter.{Letter}
 pub use Rattle.instruction_set.specs.declared.letter.Letter.TheVariants.{NopA}
