@@ -1,12 +1,15 @@
 -- The loop over the pieces of a log.
-use Rattle.std.proofs.Common.{◌≡◌, ℕ, ◌+◌, List, [], ◌∷◌, ◌++◌, Option, Some, None, Result, Ok, Err, Bor, refl, sym, ap, ◌∙◌, append_assoc, zero-add}
+use Rattle.std.proofs.Common.{◌≡◌, ℕ, ◌+◌, List, [], ◌∷◌, ◌++◌, Option, Some, None, Result, Ok, Err, Bor, length, length-append, ◌<◌, arith, refl, sym, ap, ◌∙◌, append_assoc, zero-add}
 use Rattle.std.specs.Prelude.{◌≢◌, ◌↔◌, option_copied}
-use Rattle.lineage_log.proofs.Prelude.{Line, line_of, Reason, Refusal, LogStop, LogPlace, told, LogReader, TellsPiece, left_of, place_of, Tells, stop_of, stop_at, with_line, pieces_log, log_kind, log_of, lines_text, Reads, IsGoodLog}
+use Rattle.lineage_log.proofs.Prelude.{HasForm, line_text, row_text, split_first, Line, line_of, Reason, Refusal, LogStop, LogPlace, told, LogReader, TellsPiece, left_of, place_of, Tells, stop_of, stop_at, with_line, pieces_log, log_kind, log_of, lines_text, Reads, IsGoodLog}
 use Rattle.log_lines.specs.Words.{pieces_of}
 use Rattle.lineage_log.specs.declared.refusal.Refusal.TheVariants.{Memory, Faulty}
 use Rattle.lineage_log.specs.declared.log_stop.LogStop.TheVariants as wanting
 use Rattle.lineage_log.proofs.LineWalkLaws.{cut, more_pieces}
 use Rattle.lineage_log.proofs.LogLaws.{line_counted}
+use Rattle.lineage_log.specs.LogReading.{GoesOn, ReadsLine}
+use Rattle.lineage_log.specs.declared.place.LogPlace as code
+use Rattle.log_lines.proofs.LineLaws.{lines_spell}
 
 -- lines before those that are read
 abbrev pub with_front : List Line → Result (List Line) LogStop → Result (List Line) LogStop
@@ -85,3 +88,60 @@ pub refused : (refusal : Refusal) (number : ℕ) (stop : LogStop) (next : LogPla
 refused Memory number stop next t read is other told faulty = absurd (other is)
 refused (Faulty reason) number stop next t read is other told faulty =
     faulty reason told ∙ ap (λ (s : LogStop). Err s) (sym is)
+
+-- a reader that goes on behind a line that was told has read it
+pub reads_line : (before next after : LogReader) (line : Line) (piece left : List ℕ)
+    → GoesOn next after left → next.number ≡ before.number
+    → left_of before ≡ pieces_log before.number (place_of before.place) (piece ∷ cut left)
+    → line_of piece ≡ Some line → told (place_of before.place) line ≡ Ok (place_of next.place)
+    → length left < length before.rest.now → ReadsLine line before after
+reads_line before next after line piece left goes same is has good short =
+    let n = before.number in
+    let behind : left_of after ≡ pieces_log (n + 1) (place_of next.place) (cut left) =
+    rw (goes.number, same, goes.place, goes.rest) refl in
+    record {
+      left = is ∙ good_line n (place_of before.place) piece left line (place_of next.place) (n + 1)
+          has good refl ∙ ap (with_line line) (sym behind);
+      told = good ∙ ap (λ (p : code.LogPlace). Ok (place_of p)) (sym goes.place);
+      shorter = rw goes.rest short;
+    }
+
+module _ (reader : LogReader) (line : Line) (left : List ℕ)
+    (text : reader.rest.now ≡ line_text line ++ left) (form : HasForm line) where
+  -- the bytes that are left begin with the text of a line
+  row_front : reader.rest.now ≡ row_text line ++ 10 ∷ left
+  row_front = text ∙ append_assoc (row_text line) (10 ∷ []) left
+
+  -- which is the first piece of what is left of the log
+  line_first : left_of reader
+      ≡ pieces_log reader.number (place_of reader.place) (row_text line ∷ cut left)
+  line_first =
+      ap (λ (bytes : List ℕ). pieces_log reader.number (place_of reader.place) (cut bytes)) row_front
+      ∙ ap (λ (ps : List (List ℕ)). pieces_log reader.number (place_of reader.place) ps)
+      (split_first 10 (row_text line) left (lines_spell.one_line line form))
+
+  -- and is read as the line
+  is_line : line_of (row_text line) ≡ Some line
+  is_line = lines_spell.again line form
+
+  -- behind it less is left
+  less_left : length left < length reader.rest.now
+  less_left = rw row_front (omega (arith, length-append (row_text line) (10 ∷ left)))
+
+  -- where it is out of order, that is the fault
+  pub line_refused : (refusal : Refusal) (stop : LogStop) (next : LogPlace)
+      → stop ≡ stop_of reader.number refusal → (stop ≢ wanting.Memory)
+      → Tells {A = Unit {0}} (λ done. next) (Err refusal) (told (place_of reader.place) line)
+      → left_of reader ≡ Err stop
+  line_refused refusal stop next is other bad =
+      refused refusal reader.number stop next (told (place_of reader.place) line) (left_of reader)
+      is other bad
+      (λ reason faulty. line_first ∙ bad_order reader.number (place_of reader.place)
+      (row_text line) left line reason is_line faulty)
+
+  -- where it is told, it is read
+  pub line_read : (next after : LogReader) → GoesOn next after left → next.number ≡ reader.number
+      → told (place_of reader.place) line ≡ Ok (place_of next.place) → ReadsLine line reader after
+  line_read next after goes same good =
+      reads_line reader next after line (row_text line) left goes same line_first is_line good
+      less_left

@@ -4,7 +4,7 @@ use Rattle.lineage_log.specs.declared.place.LogPlace as code
 use Rattle.lineage_log.specs.declared.place.LogPlace.TheVariants as place
 use Rattle.lineage_log.specs.Readings.{reader_of}
 use Rattle.lineage_log.specs.Order.{LogPlace, Before, Within, After, told, IsWhole}
-use Rattle.std.specs.Prelude.{◌≡◌, ◌≢◌, ℕ, ◌<◌, List, [], length, Option, Some, None, Result, Ok, Err, Bool, true, false, ⊤, ◌==◌}
+use Rattle.std.specs.Prelude.{◌≡◌, ◌≢◌, ℕ, ◌+◌, ◌<◌, List, [], length, Option, Some, None, Result, Ok, Err, Bool, true, false, ⊤, ◌==◌}
 use Rattle.lineage_log.specs.declared.log_stop.LogStop.{LogStop}
 use Rattle.lineage_log.specs.declared.log_stop.LogStop.TheVariants as stop
 use Rattle.lineage_log.specs.declared.log_reader.LogReader.{LogReader}
@@ -29,6 +29,12 @@ pub record IsAtStart (bytes : List ℕ) (reader : LogReader) : Type 0 where
   pub rest : reader.rest.now ≡ bytes
   pub number : reader.number ≡ 1
   pub place : place_of reader.place ≡ Before
+
+-- the reader stands behind a line, at the same place
+pub record GoesOn (before after : LogReader) (left : List ℕ) : Type 0 where
+  pub number : after.number ≡ before.number + 1
+  pub place : after.place ≡ before.place
+  pub rest : after.rest.now ≡ left
 
 -- one line was read and told, and the others are left
 pub record ReadsLine (line : Line) (before after : LogReader) : Type 0 where

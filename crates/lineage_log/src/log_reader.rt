@@ -1,8 +1,8 @@
 // Reads the lines of a log one after another.
-ghost use Rattle.std.specs.Prelude.{◌≡◌, ◌<◌};
+ghost use Rattle.std.specs.Prelude.{◌≡◌, ◌<◌, Err, OnErr, OnOk};
 ghost use Rattle.lineage_log.specs.Prelude.{birth_values, line_of};
 ghost use Rattle.lineage_log.specs.LogGrammar.{last_piece};
-ghost use Rattle.lineage_log.specs.LogReading.{place_of, EndsAt, GivesNext, IsAtStart, TellsNext, TellsPiece};
+ghost use Rattle.lineage_log.specs.LogReading.{place_of, EndsAt, GivesNext, GoesOn, IsAtStart, TellsNext, TellsPiece};
 ghost use Rattle.lineage_log.specs.Readings.{Tells, stop_of};
 ghost use Rattle.lineage_log.specs.Order.{told};
 
@@ -10,7 +10,7 @@ use crate::log_stop::LogStop;
 use crate::place::{LogPlace, tell};
 use crate::reason::Reason;
 use crate::refusal::{OUT_OF_ORDER, Refusal};
-use log_lines::{Birth, LogLine, read_birth, read_line, split_at};
+use log_lines::{Birth, LogLine, birth_front, read_line, split_at};
 use std::alloc::Global;
 
 /// A log that is read line by line. It keeps none of the lines.
@@ -63,8 +63,21 @@ fn end_at(number: u64, place: &LogPlace, piece: &[u8]) -> Result<(), LogStop>
     }
 }
 
-/// The next line, or None at the end of a whole log. After an error the reader is not used again.
-pub fn next_line(alloc: Global, reader: &mut LogReader<'_>) -> Result<Option<LogLine>, LogStop>
+/// Goes on behind a line.
+fn pass<'a>(reader: &mut LogReader<'a>, behind: &'a [u8]) -> Result<(), LogStop>
+    ensures ok { OnOk result (GoesOn reader.old reader.new behind.now) }
+    ensures err { OnErr result (result ≡ Err LogStop.Memory) }
+{
+    let Some(next) = reader.number.checked_add(1) else {
+        return Err(LogStop::Memory);
+    };
+    reader.number = next;
+    reader.rest = behind;
+    Ok(())
+}
+
+/// As `next_line`, for a line of any form.
+fn next_other(alloc: Global, reader: &mut LogReader<'_>) -> Result<Option<LogLine>, LogStop>
     ensures { GivesNext result reader.old reader.new }
 {
     let number = reader.number;
@@ -79,11 +92,23 @@ pub fn next_line(alloc: Global, reader: &mut LogReader<'_>) -> Result<Option<Log
     if let Err(refusal) = tell(alloc, &mut reader.place, &line) {
         return Err(stop_for(refusal, number));
     }
-    let Some(next) = number.checked_add(1) else {
-        return Err(LogStop::Memory);
+    pass(reader, behind)?;
+    Ok(Some(line))
+}
+
+/// The next line, or None at the end of a whole log. After an error the reader is not used again.
+/// Most lines are births, so these are tried first.
+pub fn next_line(alloc: Global, reader: &mut LogReader<'_>) -> Result<Option<LogLine>, LogStop>
+    ensures { GivesNext result reader.old reader.new }
+{
+    let Some(behind) = birth_front(alloc, &mut reader.birth, reader.rest)? else {
+        return next_other(alloc, reader);
     };
-    reader.number = next;
-    reader.rest = behind;
+    let line = reader.birth.take_line(alloc);
+    if let Err(refusal) = tell(alloc, &mut reader.place, &line) {
+        return Err(stop_for(refusal, reader.number));
+    }
+    pass(reader, behind)?;
     Ok(Some(line))
 }
 
@@ -119,27 +144,8 @@ fn tell_line(alloc: Global, place: &mut LogPlace, piece: &[u8]) -> Result<bool, 
     }
 }
 
-/// As `tell_line`. Most lines are births, so these are tried first, and each is read into `birth`, in
-/// place of the one before.
-fn tell_piece(
-    alloc: Global,
-    place: &mut LogPlace,
-    birth: &mut Birth,
-    piece: &[u8],
-) -> Result<bool, Refusal>
-    ensures { TellsPiece result (line_of piece.now) (place_of place.old) (place_of place.new) }
-{
-    if read_birth(alloc, birth, piece)? {
-        tell_birth(alloc, place, birth)?;
-        Ok(true)
-    } else {
-        tell_line(alloc, place, piece)
-    }
-}
-
-/// Tells the next line, and says whether there was one: none is left at the end of a whole log.
-/// After an error the reader is not used again.
-pub fn tell_next(alloc: Global, reader: &mut LogReader<'_>) -> Result<bool, LogStop>
+/// As `tell_next`, for a line of any form.
+fn tell_other(alloc: Global, reader: &mut LogReader<'_>) -> Result<bool, LogStop>
     ensures { TellsNext result reader.old reader.new }
 {
     let number = reader.number;
@@ -148,15 +154,27 @@ pub fn tell_next(alloc: Global, reader: &mut LogReader<'_>) -> Result<bool, LogS
         end_at(number, &reader.place, piece)?;
         return Ok(false);
     };
-    match tell_piece(alloc, &mut reader.place, &mut reader.birth, piece) {
+    match tell_line(alloc, &mut reader.place, piece) {
         Ok(true) => {}
         Ok(false) => return Err(LogStop::BadLine { line: number }),
         Err(refusal) => return Err(stop_for(refusal, number)),
     }
-    let Some(next) = number.checked_add(1) else {
-        return Err(LogStop::Memory);
+    pass(reader, behind)?;
+    Ok(true)
+}
+
+/// Tells the next line, and says whether there was one: none is left at the end of a whole log.
+/// After an error the reader is not used again. Most lines are births, so these are tried first, and
+/// each is read into `birth`, in place of the one before.
+pub fn tell_next(alloc: Global, reader: &mut LogReader<'_>) -> Result<bool, LogStop>
+    ensures { TellsNext result reader.old reader.new }
+{
+    let Some(behind) = birth_front(alloc, &mut reader.birth, reader.rest)? else {
+        return tell_other(alloc, reader);
     };
-    reader.number = next;
-    reader.rest = behind;
+    if let Err(refusal) = tell_birth(alloc, &mut reader.place, &reader.birth) {
+        return Err(stop_for(refusal, reader.number));
+    }
+    pass(reader, behind)?;
     Ok(true)
 }

@@ -1,7 +1,7 @@
 -- Reading a row in two steps: its first fields, and then the row behind them.
-use Rattle.std.proofs.Common.{arith, ◌≡◌, ℕ, Bool, true, false, List, [], ◌∷◌, Option, Some, None, refl}
+use Rattle.std.proofs.Common.{arith, ◌≡◌, ℕ, List, [], ◌∷◌, Option, Some, None, refl}
 use Rattle.std.specs.Prelude.{option_and_then, option_map}
-use Rattle.log_lines.proofs.Prelude.{then_some, common_steps, Letter, Change, number, genome_of_word, birth_form, start_form, small, large, over_field, record_row, side, read_both, read_last, read_as, read_arrival, read_first, read_newborn, read_opening, read_then}
+use Rattle.log_lines.proofs.Prelude.{common_steps, Letter, Change, number, genome_of_word, birth_form, start_form, small, large, over_field, record_row, side, read_both, read_last, read_as, read_arrival, read_first, read_newborn, read_opening, read_then}
 use Rattle.log_lines.specs.declared.reading.Arrival.{Arrival}
 use Rattle.log_lines.specs.declared.reading.Newborn.{Newborn}
 use Rattle.log_lines.specs.declared.reading.Opening.{Opening}
@@ -116,11 +116,12 @@ pub birth_none : (words : Left) → None ≡ read_newborn words → None ≡ rea
 birth_none words none = rw (← birth_begins words, ← none)
 
 -- a birth with the record that is read, or none
-pub birth_some : (words left : Left) (n : Newborn) (birth : Record) (read : Bool)
-    → Some (n, left) ≡ read_newborn words → then_some read birth ≡ record_row.read left
-    → then_some read (birth_form.line (birth_fields n birth)) ≡ read_as birth_form words
-birth_some words left n birth true some is = rw (← birth_begins words, ← some, ← is)
-birth_some words left n birth false some is = rw (← birth_begins words, ← some, ← is)
+pub birth_some : (words left : Left) (n : Newborn) (birth : Option Record)
+    → Some (n, left) ≡ read_newborn words → birth ≡ record_row.read left
+    → option_map (λ b. birth_form.line (birth_fields n b)) birth
+    ≡ read_as birth_form words
+birth_some words left n (Some birth) some is = rw (← birth_begins words, ← some, ← is)
+birth_some words left n None some is = rw (← birth_begins words, ← some, ← is)
 
 -- ---- a first line
 

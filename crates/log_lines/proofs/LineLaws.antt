@@ -8,6 +8,8 @@ use Rattle.log_lines.proofs.FieldLaws.{Above, IsField, IsRow, chosen, number_law
 use Rattle.log_lines.proofs.ListLaws.{times_law}
 use Rattle.log_lines.proofs.RowLaws.{words_in, joined_words, row_words, row_plain, row_takes}
 use Rattle.log_lines.proofs.KindLaws.{low, small_law, large_law, rate_law, over_law, base_law, changes_law}
+use Rattle.log_lines.specs.LineReading.{OneSpelling}
+use Rattle.numerals.proofs.SpellingLemmas.{numbers_spell}
 
 -- a form with a value of its fields
 record FilledForm : Type 1 where
@@ -264,3 +266,11 @@ module _ (numbers : OneNumber) where
       let law = (line_law line).0 in
       rw ((by_form line).text)
       (row_plain law.words has.form.mark has.fields law.high ((by_form line).fits fits))
+
+-- each line has one spelling
+pub lines_spell : OneSpelling
+lines_spell = record {
+  again = line_again numbers_spell;
+  takes = line_takes numbers_spell;
+  one_line = line_plain numbers_spell;
+}

@@ -1,8 +1,8 @@
 -- The text of a row behind its mark: its words are told apart again, and no newline is in it.
-use Rattle.std.proofs.Common.{◌≡◌, ℕ, ◌<◌, true, List, [], ◌∷◌, ◌++◌, Option, Some, None, refl, sym, ap, ◌∙◌, arith, append-nil}
+use Rattle.std.proofs.Common.{◌≡◌, ℕ, ◌<◌, true, List, [], ◌∷◌, ◌++◌, Some, sym, ap, ◌∙◌, arith, append-nil}
 use Rattle.std.specs.Prelude.{◌==◌}
-use Rattle.log_lines.proofs.Prelude.{bytes_eq, slice_split, join_with_byte, AllByRecursion, join_with_byte-slice_split, Field, Row, read_last, words_text, form_text}
-use Rattle.log_lines.proofs.FieldLaws.{Above, IsField, IsRow, above_lower, above_append, same_bytes, split_first, split_one}
+use Rattle.log_lines.proofs.Prelude.{bytes_eq, slice_split, join_with_byte, AllByRecursion, Row, words_text, form_text}
+use Rattle.log_lines.proofs.FieldLaws.{Above, IsRow, above_lower, above_append, same_bytes, split_first, split_one}
 
 -- the words of a text
 abbrev pub words_in : List ℕ → List (List ℕ)
@@ -53,26 +53,3 @@ module _ {A : Type 0} {row : Row A} (law : IsRow 32 row) (mark : ℕ) where
             ∙ ap (λ (w : List ℕ). w ++ words_text words) (sym first),
         t.1,
       )
-
-module _ {A : Type 0} {f : Field A} (law : IsField 32 f) (text : List ℕ) where
-  -- what a text is not read as, its only word is not read as
-  none_last : (words : List (List ℕ)) → words_in text ≡ words → f.read text ≡ None
-      → None ≡ read_last f.read words
-  none_last [] is none = refl
-  none_last (word ∷ []) is none =
-      let same : word ≡ text = sym (ap (λ (ws : List (List ℕ)). join_with_byte 32 ws) is)
-      ∙ join_with_byte-slice_split 32 text in
-      rw (same, none) refl
-  none_last (word ∷ other ∷ words) is none = refl
-
-  -- a text that is read or not is its only word
-  by_value : (found : Option A) → f.read text ≡ found → found ≡ read_last f.read (words_in text)
-  by_value None none = none_last (words_in text) refl none
-  by_value (Some a) is =
-      let t = law.takes text a is in
-      let plain : Above 32 text = rw t.0 at (law.plain a t.1) in
-      rw (split_one 32 text plain, is) refl
-
-  -- the only word of a text is read as the text is
-  pub last_whole : f.read text ≡ read_last f.read (words_in text)
-  last_whole = by_value (f.read text) refl

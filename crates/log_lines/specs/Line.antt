@@ -3,7 +3,7 @@
 -- `Birth 7 3 12 45 None birth`: in update 12 organism 7 was born to organism 3, into the empty cell
 -- 45. The record `birth` tells its genome: the parent's (`written` is None), with two `changes`.
 -- The words of a line are its mark, and a word for each value.
-use Rattle.std.specs.Prelude.{⊤, ℕ, List, Option, Some, [], ◌∷◌, ◌++◌, map, codes, decimal}
+use Rattle.std.specs.Prelude.{ℕ, List, Option, [], ◌∷◌, ◌++◌, map, codes, decimal}
 use Rattle.log_lines.specs.Prelude.{Letter, BirthRecord, record_of, RateName, code, join_with_byte, option_map_or, byte_of, Change, Point, Insert, Delete, name_of_rate}
 use Rattle.genome.specs.Genome.{letters}
 use Rattle.log_lines.specs.declared.birth.Birth as told
@@ -47,11 +47,6 @@ line_values (log_line.End updates) = End updates
 -- the line of a birth that was read by itself
 abbrev pub birth_values : told.Birth → Line
 birth_values b = Birth b.id b.parent b.update b.cell b.over (record_of b.origin)
-
--- no line, or one that tells no birth
-abbrev pub IsNoBirth : Option Line → Type 0
-IsNoBirth (Some (Birth id parent update cell over birth)) = ⊥
-IsNoBirth _ = ⊤
 
 -- numbers in decimal digits
 abbrev pub decimals : List ℕ → List (List ℕ)

@@ -23,11 +23,6 @@ abbrev pub after_word : List ℕ → Option (Option (List ℕ))
 after_word [] = Some None
 after_word (b ∷ bs) = if b == code " " then Some (Some bs) else None
 
--- a comma and the text behind it, or no text where nothing is left
-abbrev pub comma_then : Option (List ℕ) → List ℕ
-comma_then None = []
-comma_then (Some rest) = code "," ∷ rest
-
 -- what is read from the first word, and the words behind it
 abbrev pub read_first :
     {A : Type 0} → (List ℕ → Option A) → List (List ℕ) → Option (A × List (List ℕ))

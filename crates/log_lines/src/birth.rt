@@ -1,9 +1,11 @@
 ghost use Rattle.std.specs.Prelude.{◌≡◌, [], None};
 ghost use Rattle.log_lines.specs.Line as line;
-ghost use Rattle.log_lines.specs.Line.{birth_values};
+ghost use Rattle.log_lines.specs.Line.{birth_values, line_values};
 
+use crate::log_line::LogLine;
 use mutations::{Base, Changes, Origin};
 use std::alloc::Global;
+use std::mem;
 
 /// A birth, as its line tells it.
 #[derive(Drop)]
@@ -34,6 +36,24 @@ impl Birth {
                 base: Base::Parent,
                 changes: Changes::none(alloc),
             },
+        }
+    }
+
+    /// The line of this birth. What is left has the parent's genome as its base, and no changes.
+    pub fn take_line(&mut self, alloc: Global) -> LogLine
+        ensures line { line_values result ≡ birth_values self.old }
+        ensures left { birth_values self.new ≡ line.Birth self.old.id self.old.parent self.old.update
+            self.old.cell self.old.over (record { written = None; changes = [] }) }
+    {
+        let blank = Birth::blank(alloc);
+        let origin = mem::replace(&mut self.origin, blank.origin);
+        LogLine::Birth {
+            id: self.id,
+            parent: self.parent,
+            update: self.update,
+            cell: self.cell,
+            over: self.over,
+            origin,
         }
     }
 }

@@ -1,17 +1,17 @@
 // Reads the fields of a line that are more than a number.
-ghost use Rattle.std.specs.Prelude.{◌≡◌, ◌∷◌, ◌&&◌, Some, None, IfOk, IfSome, option_copied, option_map, length, if◌then◌else◌};
+ghost use Rattle.std.specs.Prelude.{◌≡◌, ◌∷◌, [], ◌&&◌, Some, None, IfOk, IfSome, option_copied, option_map, length, if◌then◌else◌};
 ghost use Rattle.log_lines.specs.Prelude.{byte_of, letter_of_byte, written_in, is_genome_length, change_may_follow, in_order};
 ghost use Rattle.genome.specs.Genome as genome_spec;
 ghost use Rattle.log_lines.specs.Fields.{each, genome_of_word, list_of};
 ghost use Rattle.log_lines.specs.Kinds.{base_field, change_field, changes_field, read_change, read_lettered};
-ghost use Rattle.log_lines.specs.Words.{ToChange, comma_then, pieces_of, read_first};
+ghost use Rattle.log_lines.specs.Words.{ToChange, pieces_of, read_first};
 
 use crate::words::split_at;
 use avida_port::Memory;
 use genome::{GREATEST_LENGTH, Genome, LEAST_LENGTH};
 use instruction_set::Letter;
 use mutations::{Base, Change, Changes};
-use numerals::{leading_number, small_number};
+use numerals::small_number;
 use std::alloc::Global;
 
 /// The letters of a word, where each byte is one.
@@ -127,66 +127,11 @@ fn item(word: &[u8]) -> Option<Change>
     }
 }
 
-/// What is left behind the comma that `rest` begins with, or nothing if `rest` is empty.
-fn after_comma(rest: &[u8]) -> Option<Option<&[u8]>>
-    ensures { IfSome result (λ left. rest.now ≡ comma_then (option_copied left)) }
-{
-    match rest {
-        [] => Some(None),
-        [b',', behind @ ..] => Some(Some(behind)),
-        _ => None,
-    }
-}
-
-/// The letter of a change, and what is left behind the comma that follows it.
-fn letter_first(rest: &[u8]) -> Option<(Letter, Option<&[u8]>)>
-    ensures { IfSome result (λ p. rest.now ≡ byte_of p.0 ∷ comma_then (option_copied p.1)) }
-{
-    match rest {
-        [byte, behind @ ..] => {
-            let letter = Letter::from_byte(*byte)?;
-            let left = after_comma(behind)?;
-            Some((letter, left))
-        }
-        [] => None,
-    }
-}
-
-/// The change with this mark and what is left behind its comma, in one pass. It may give None also
-/// where the text is another than that of a change.
-fn quick_change(mark: u8, rest: &[u8]) -> Option<(Change, Option<&[u8]>)>
-    ensures { IfSome result (λ p. read_first read_change (pieces_of 44 (Some (mark ∷ rest.now)))
-        ≡ Some (p.0, pieces_of 44 (option_copied p.1))) }
-{
-    let (value, len) = leading_number(0, u64::from(u32::MAX), rest)?;
-    let at = value as u32;
-    match mark {
-        b'p' => {
-            let (letter, left) = letter_first(&rest[len..])?;
-            Some((Change::Point { at, letter }, left))
-        }
-        b'i' => {
-            let (letter, left) = letter_first(&rest[len..])?;
-            Some((Change::Insert { at, letter }, left))
-        }
-        b'd' => {
-            let left = after_comma(&rest[len..])?;
-            Some((Change::Delete { at }, left))
-        }
-        _ => None,
-    }
-}
-
 /// The first change of a list, and what is left behind its comma.
 fn first_change(rest: &[u8]) -> Option<(Change, Option<&[u8]>)>
     ensures { option_map (λ p. (p.0, pieces_of 44 (option_copied p.1))) result
         ≡ read_first read_change (pieces_of 44 (Some rest.now)) }
 {
-    if let [mark, behind @ ..] = rest {
-        if let Some(found) = quick_change(*mark, behind) {
-            return Some(found);
-        }
-    }
     let (piece, others) = split_at(rest, b',');
     match item(piece) {
         Some(one) => Some((one, others)),
@@ -195,12 +140,11 @@ fn first_change(rest: &[u8]) -> Option<(Change, Option<&[u8]>)>
 }
 
 /// The changes that stand between commas, in any order.
-fn item_list(spare: Vec<Change>, word: &[u8]) -> Result<Option<Vec<Change>>, Memory>
+fn item_list(alloc: Global, word: &[u8]) -> Result<Option<Vec<Change>>, Memory>
     ensures { IfOk result (λ found. option_map (λ v. v.items) found
         ≡ each read_change (pieces_of 44 (Some word.now))) }
 {
-    let mut found = spare;
-    found.clear();
+    let mut found = Vec::new(alloc);
     let mut left = Some(word);
     while let Some(rest) = left {
         let Some((one, others)) = first_change(rest) else {
@@ -213,13 +157,13 @@ fn item_list(spare: Vec<Change>, word: &[u8]) -> Result<Option<Vec<Change>>, Mem
 }
 
 /// The changes in any order, or a dash for none.
-fn items(alloc: Global, spare: Vec<Change>, word: &[u8]) -> Result<Option<Vec<Change>>, Memory>
+fn items(alloc: Global, word: &[u8]) -> Result<Option<Vec<Change>>, Memory>
     ensures { IfOk result (λ found. option_map (λ v. v.items) found
         ≡ (list_of change_field).read word.now) }
 {
     match word {
         [b'-'] => Ok(Some(Vec::new(alloc))),
-        _ => item_list(spare, word),
+        _ => item_list(alloc, word),
     }
 }
 
@@ -237,7 +181,7 @@ fn may_follow(first: &Change, next: &Change) -> bool
 }
 
 /// Whether points with rising places come first, then insertions, then deletions.
-fn is_in_order(changes: &[Change]) -> bool
+pub fn is_in_order(changes: &[Change]) -> bool
     ensures { result ≡ in_order changes.now }
 {
     let mut rest = changes;
@@ -251,10 +195,10 @@ fn is_in_order(changes: &[Change]) -> bool
 }
 
 /// The changes of a birth, in the order that a log asks for.
-pub fn changes(alloc: Global, spare: Vec<Change>, word: &[u8]) -> Result<Option<Changes>, Memory>
+pub fn changes(alloc: Global, word: &[u8]) -> Result<Option<Changes>, Memory>
     ensures { IfOk result (λ found. found ≡ changes_field.read word.now) }
 {
-    match items(alloc, spare, word)? {
+    match items(alloc, word)? {
         Some(found) => {
             if is_in_order(&found) {
                 Ok(Some(Changes::from_vec(found)))
@@ -264,4 +208,13 @@ pub fn changes(alloc: Global, spare: Vec<Change>, word: &[u8]) -> Result<Option<
         }
         None => Ok(None),
     }
+}
+
+/// No changes. The room of `spare` is kept.
+pub fn no_changes(spare: Vec<Change>) -> Changes
+    ensures { result ≡ [] }
+{
+    let mut none = spare;
+    none.clear();
+    Changes::from_vec(none)
 }

@@ -3,6 +3,7 @@
 
 mod birth;
 mod fields;
+mod front;
 pub mod laws;
 mod log_line;
 mod plain_lines;
@@ -13,8 +14,9 @@ mod writing;
 
 pub use birth::Birth;
 pub use fields::genome_letters;
+pub use front::birth_front;
 pub use log_line::{LAST_VERSION, LogLine};
-pub use reading::{genome_last, read_birth, read_line};
+pub use reading::{genome_last, read_line};
 pub use stats::Stats;
 pub use words::{last_word, split_at};
 pub use writing::{

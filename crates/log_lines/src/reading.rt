@@ -1,26 +1,23 @@
 // Reads the line that a text has.
-ghost use Rattle.std.specs.Prelude.{◌≡◌, ◌∷◌, [], Some, IfOk, IsFalse, IsTrue, option_copied, option_map};
+ghost use Rattle.std.specs.Prelude.{◌≡◌, ◌∷◌, [], Some, IfOk, option_copied, option_map};
 ghost use Rattle.log_lines.specs.Prelude.{written_in};
-ghost use Rattle.std.specs.Bool.{then_some};
 ghost use Rattle.genome.specs.Genome as genome_spec;
 ghost use Rattle.log_lines.specs.Fields as fields_spec;
 ghost use Rattle.log_lines.specs.Kinds.{base_field, changes_field, over_field, record_row, read_last};
 ghost use Rattle.log_lines.specs.Words.{read_arrival, read_first, read_newborn, read_opening, words_of};
-ghost use Rattle.log_lines.specs.Line.{IsNoBirth, birth_values, line_values};
+ghost use Rattle.log_lines.specs.Line.{line_values};
 ghost use Rattle.log_lines.specs.Forms.{birth_form, forms, injected_form, start_form};
 ghost use Rattle.log_lines.specs.LineReading.{line_of, read_as, read_by};
 
-use crate::birth::Birth;
 use crate::fields::{base, changes, genome};
 use crate::log_line::{LAST_VERSION, LogLine};
 use crate::plain_lines::read_plain;
 use crate::words::{after_word, large_first, last_word, small_first, split_at};
 use avida_port::Memory;
 use genome::Genome;
-use mutations::{Base, Change, Changes, Origin};
+use mutations::{Base, Changes, Origin};
 use random_streams::GREATEST_SIDE;
 use std::alloc::Global;
-use std::mem;
 
 /// The genome that ends the line. None where other words follow it, or the last word spells none.
 pub fn genome_last(alloc: Global, rest: Option<&[u8]>) -> Result<Option<Genome>, Memory>
@@ -34,39 +31,14 @@ pub fn genome_last(alloc: Global, rest: Option<&[u8]>) -> Result<Option<Genome>,
 }
 
 /// The changes that end the line.
-fn changes_last(
-    alloc: Global,
-    spare: Vec<Change>,
-    rest: Option<&[u8]>,
-) -> Result<Option<Changes>, Memory>
+fn changes_last(alloc: Global, rest: Option<&[u8]>) -> Result<Option<Changes>, Memory>
     ensures { IfOk result (λ found. found
         ≡ read_last changes_field.read (words_of (option_copied rest.entry))) }
 {
-    match rest {
-        Some(bytes) => changes_in(alloc, spare, bytes),
+    match last_word(rest) {
+        Some(word) => changes(alloc, word),
         None => Ok(None),
     }
-}
-
-/// As `changes_last`. Many births have no changes, so the dash for none is tried first.
-fn changes_in(alloc: Global, spare: Vec<Change>, bytes: &[u8]) -> Result<Option<Changes>, Memory>
-    ensures { IfOk result (λ found. found
-        ≡ read_last changes_field.read (words_of (Some bytes.now))) }
-{
-    match bytes {
-        [b'-'] => Ok(Some(no_changes(spare))),
-        // The text of changes has no space, so a rest of two words is none.
-        _ => changes(alloc, spare, bytes),
-    }
-}
-
-/// No changes. The room of `spare` is kept.
-fn no_changes(spare: Vec<Change>) -> Changes
-    ensures { result ≡ [] }
-{
-    let mut none = spare;
-    none.clear();
-    Changes::from_vec(none)
 }
 
 #[inline(always)]
@@ -105,10 +77,10 @@ fn over_in(bytes: &[u8]) -> Option<(Option<u64>, Option<&[u8]>)>
 
 /// When and where an organism came, and who stood there and so died.
 #[derive(Clone, Copy)]
-struct Arrival {
-    update: u32,
-    cell: u32,
-    over: Option<u64>,
+pub struct Arrival {
+    pub update: u32,
+    pub cell: u32,
+    pub over: Option<u64>,
 }
 
 #[inline(always)]
@@ -184,46 +156,39 @@ fn base_first<'a>(
     }
 }
 
-/// As `base_first`. Most births have the parent's genome, so its sign is tried first.
+/// As `base_first`.
 fn base_in(alloc: Global, bytes: &[u8]) -> Result<Option<(Base, Option<&[u8]>)>, Memory>
     ensures { IfOk result (λ found.
         option_map (λ p. (written_in p.0, words_of (option_copied p.1))) found
         ≡ read_first base_field.read (words_of (Some bytes.now))) }
 {
-    match bytes {
-        [b'=', b' ', behind @ ..] => Ok(Some((Base::Parent, Some(behind)))),
-        _ => {
-            let (word, others) = split_at(bytes, b' ');
-            match base(alloc, word)? {
-                Some(value) => Ok(Some((value, others))),
-                None => Ok(None),
-            }
-        }
+    let (word, others) = split_at(bytes, b' ');
+    match base(alloc, word)? {
+        Some(value) => Ok(Some((value, others))),
+        None => Ok(None),
     }
 }
 
-/// Reads the record that ends a birth's line into `origin`, in place of what it holds.
-fn origin_last(alloc: Global, origin: &mut Origin, rest: Option<&[u8]>) -> Result<bool, Memory>
-    ensures { IfOk result (λ read. then_some read (written_in origin.new.base, origin.new.changes)
+/// The record that ends a birth's line.
+fn origin_last(alloc: Global, rest: Option<&[u8]>) -> Result<Option<Origin>, Memory>
+    ensures { IfOk result (λ found. option_map (λ o. (written_in o.base, o.changes)) found
         ≡ record_row.read (words_of (option_copied rest.entry))) }
 {
     let Some((base, rest)) = base_first(alloc, rest)? else {
-        return Ok(false);
+        return Ok(None);
     };
-    let spare = mem::replace(&mut origin.changes, Changes::none(alloc));
-    let Some(changes) = changes_last(alloc, spare.into_vec(), rest)? else {
-        return Ok(false);
+    let Some(changes) = changes_last(alloc, rest)? else {
+        return Ok(None);
     };
-    *origin = Origin { base, changes };
-    Ok(true)
+    Ok(Some(Origin { base, changes }))
 }
 
 /// The fields of a birth before its record.
 #[derive(Clone, Copy)]
-struct Newborn {
-    id: u64,
-    parent: u64,
-    arrival: Arrival,
+pub struct Newborn {
+    pub id: u64,
+    pub parent: u64,
+    pub arrival: Arrival,
 }
 
 fn newborn_first<'a>(rest: Option<&'a [u8]>) -> Option<(Newborn, Option<&'a [u8]>)>
@@ -241,58 +206,23 @@ fn newborn_first<'a>(rest: Option<&'a [u8]>) -> Option<(Newborn, Option<&'a [u8]
     Some((newborn, rest))
 }
 
-/// Reads a birth into `birth`, from what stands behind its mark.
-#[inline(never)]
-fn birth_behind(alloc: Global, birth: &mut Birth, rest: Option<&[u8]>) -> Result<bool, Memory>
-    ensures { IfOk result (λ read. then_some read (birth_values birth.new)
-        ≡ read_as birth_form (words_of (option_copied rest.entry))) }
-{
-    let Some((newborn, rest)) = newborn_first(rest) else {
-        return Ok(false);
-    };
-    birth.id = newborn.id;
-    birth.parent = newborn.parent;
-    birth.update = newborn.arrival.update;
-    birth.cell = newborn.arrival.cell;
-    birth.over = newborn.arrival.over;
-    origin_last(alloc, &mut birth.origin, rest)
-}
-
-/// Reads the text of a birth's line, which stands before its newline, into `birth`, in place of what
-/// it holds. True exactly where the text is that of a birth. Else, and after an error, `birth` may
-/// hold anything.
-pub fn read_birth(alloc: Global, birth: &mut Birth, text: &[u8]) -> Result<bool, Memory>
-    ensures birth { IfOk result (λ read. IsTrue read
-        → line_of text.now ≡ Some (birth_values birth.new)) }
-    ensures none { IfOk result (λ read. IsFalse read → IsNoBirth (line_of text.now)) }
-{
-    match text {
-        [mark, part, rest @ ..] => {
-            if *mark == b'B' && *part == b' ' {
-                birth_behind(alloc, birth, Some(rest))
-            } else {
-                Ok(false)
-            }
-        }
-        _ => Ok(false),
-    }
-}
-
-fn birth_line_behind(alloc: Global, rest: Option<&[u8]>) -> Result<Option<LogLine>, Memory>
+fn read_birth(alloc: Global, rest: Option<&[u8]>) -> Result<Option<LogLine>, Memory>
     ensures { IfOk result (λ found. option_map line_values found
         ≡ read_as birth_form (words_of (option_copied rest.entry))) }
 {
-    let mut birth = Birth::blank(alloc);
-    if !birth_behind(alloc, &mut birth, rest)? {
+    let Some((newborn, rest)) = newborn_first(rest) else {
         return Ok(None);
-    }
+    };
+    let Some(origin) = origin_last(alloc, rest)? else {
+        return Ok(None);
+    };
     Ok(Some(LogLine::Birth {
-        id: birth.id,
-        parent: birth.parent,
-        update: birth.update,
-        cell: birth.cell,
-        over: birth.over,
-        origin: birth.origin,
+        id: newborn.id,
+        parent: newborn.parent,
+        update: newborn.arrival.update,
+        cell: newborn.arrival.cell,
+        over: newborn.arrival.over,
+        origin,
     }))
 }
 
@@ -325,7 +255,7 @@ fn read_form(alloc: Global, mark: u8, rest: Option<&[u8]>) -> Result<Option<LogL
         ≡ read_by forms (mark ∷ []) (words_of (option_copied rest.entry))) }
 {
     match mark {
-        b'B' => birth_line_behind(alloc, rest),
+        b'B' => read_birth(alloc, rest),
         b'L' => read_start(alloc, rest),
         b'I' => read_injected(alloc, rest),
         _ => Ok(read_plain(mark, rest)),

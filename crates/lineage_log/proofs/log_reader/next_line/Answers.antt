@@ -1,50 +1,35 @@
-use Rattle.std.proofs.Common.{◌≡◌, ◌∙◌, Some, Result, sym, ap, subst}
-use Rattle.std.specs.Prelude.{option_map}
-use Rattle.lineage_log.proofs.Prelude.{line_values, line_of, told, left_of, place_of, Tells, Refusal}
-use Rattle.lineage_log.proofs.ReadLemmas.{next_piece, bad_line, bad_order, good_line, refused}
+use Rattle.std.proofs.Common.{◌≡◌, ◌++◌, Result, refl, sym, subst}
+use Rattle.lineage_log.proofs.Prelude.{HasForm, Line, Refusal, Tells, line_text, line_values, place_of, told}
+use Rattle.lineage_log.proofs.ReadLemmas.{line_read, line_refused}
 use Rattle.lineage_log.proofs.log_reader.next_line.Goals.{After-tell}
 use Rattle.lineage_log.proofs.log_reader.next_line.Goals as goal
 
--- the piece has the line that is told
-has_line : (c : After-tell) → line_of c.split_at.result.0.now ≡ Some (line_values c.in-Some-2.line)
-has_line c = sym c.in_ok-line.ensures ∙ ap (option_map line_values) c.in-Some-2.is
+-- the line is in front of what is left
+in_front : (c : After-tell)
+    → c.args.reader.now.rest.now ≡ line_text (line_values c.take_line-line.result) ++ c.in-Some.behind.now
+in_front c =
+    subst (λ (line : Line). c.args.reader.now.rest.now ≡ line_text line ++ c.in-Some.behind.now)
+    (sym c.take_line-line.ensures.line) (rw c.in-Some.is at c.in_ok-behind.ensures.text)
 
-pub returns-in_default-2 : goal.returns-in_default-2
-returns-in_default-2 c =
-    λ other. next_piece c.args.reader.now _ _ c.in-Some.behind c.split_at.ensures.pieces
-    c.in-Some.is
-    ∙ bad_line c.args.reader.now.number (place_of c.args.reader.now.place)
-    c.split_at.result.0.now c.in-Some.behind.now
-    (sym c.in_ok-line.ensures ∙ ap (option_map line_values) c.in_default-2.is)
+-- and has a form
+has_form : (c : After-tell) → HasForm (line_values c.take_line-line.result)
+has_form c = subst HasForm (sym c.take_line-line.ensures.line)
+    (rw c.in-Some.is at c.in_ok-behind.ensures.form)
 
 pub returns-in-Err : goal.returns-in-Err
 returns-in-Err c =
-    let n = c.args.reader.now.number in
-    let at = place_of c.args.reader.now.place in
+    let reader = c.args.reader.now in
+    let line = line_values c.take_line-line.result in
     let next = place_of c.tell.new.place in
-    let one = line_values c.in-Some-2.line in
-    let bad = subst (λ (t : Result (Unit {0}) Refusal). Tells (λ done. next) t (told at one))
-    c.in-Err.is c.tell.ensures in
-    λ other. refused c.in-Err.refusal n c.stop_for.result next (told at one)
-    (left_of c.args.reader.now) c.stop_for.ensures other bad
-    (λ reason faulty. next_piece c.args.reader.now _ _ c.in-Some.behind c.split_at.ensures.pieces
-    c.in-Some.is
-    ∙ bad_order n at c.split_at.result.0.now c.in-Some.behind.now one reason
-    (has_line (goal.at.returns-in-Err c).After-tell) faulty)
+    let at = (goal.at.returns-in-Err c).After-tell in
+    let bad = subst (λ (t : Result (Unit {0}) Refusal). Tells (λ done. next) t
+    (told (place_of reader.place) line)) c.in-Err.is c.tell.ensures in
+    λ other. line_refused reader line c.in-Some.behind.now (in_front at) (has_form at)
+    c.in-Err.refusal c.stop_for.result next c.stop_for.ensures other bad
 
 pub returns : goal.returns
 returns c =
-    let n = c.args.reader.now.number in
-    let at = place_of c.args.reader.now.place in
-    let next = place_of c.tell.new.place in
-    let one = line_values c.in-Some-2.line in
-    let good = rw c.in_default-tell.is at c.tell.ensures in
-    record {
-      left = next_piece c.args.reader.now _ _ c.in-Some.behind c.split_at.ensures.pieces
-          c.in-Some.is
-          ∙ good_line n at c.split_at.result.0.now c.in-Some.behind.now one next
-          c.in-Some-checked_add.next (has_line (goal.at.returns c).After-tell) good
-          c.in-Some-checked_add.ensures.1;
-      told = good;
-      shorter = rw c.in-Some.is at c.split_at.ensures.shorter;
-    }
+    let at = (goal.at.returns c).After-tell in
+    line_read c.args.reader.now (line_values c.take_line-line.result) c.in-Some.behind.now (in_front at)
+    (has_form at) _ c.pass.new.reader c.in_ok-pass.ensures.ok refl
+    (rw c.in_default-tell.is at c.tell.ensures)

@@ -8,7 +8,7 @@ use Rattle.log_lines.proofs.fields.item_list.Goals as goal
 pub loop-left-init : goal.loop-left-init
 loop-left-init c =
     let all = each read_change (pieces_of 44 (Some c.args.word.now)) in
-    ap (λ (l : List Change). option_map (λ others. l ++ others) all) c.clear.ensures.items
+    ap (λ (l : List Change). option_map (λ others. l ++ others) all) c.new-found.ensures.items
     ∙ sym (same_map all)
 
 pub loop-left-preserved : goal.loop-left-preserved

@@ -1,7 +1,5 @@
-use Rattle.log_lines.proofs.LineLaws.{line_again, line_takes, line_plain}
+use Rattle.log_lines.proofs.LineLaws.{lines_spell}
 use Rattle.log_lines.proofs.laws.one_spelling.Goals as goal
 
 pub returns : goal.returns
-returns c =
-    let numbers = c.one_spelling.ensures in
-    record { again = line_again numbers; takes = line_takes numbers; one_line = line_plain numbers }
+returns c = lines_spell

@@ -6,9 +6,9 @@ use Rattle.log_lines.proofs.reading.read_form.Goals as goal
 
 pub returns-in-66 : goal.returns-in-66
 returns-in-66 c =
-    subst (λ (o : Option Line). IfOk c.birth_line_behind.result (λ found. option_map line_values found ≡ o))
+    subst (λ (o : Option Line). IfOk c.read_birth.result (λ found. option_map line_values found ≡ o))
     (by_mark forms (words_of (option_copied c.args.rest)) c.args.mark 66 c.in-66.is)
-    c.birth_line_behind.ensures
+    c.read_birth.ensures
 
 pub returns-in-76 : goal.returns-in-76
 returns-in-76 c =

@@ -1,0 +1,243 @@
+// Reads a birth's line off the front of a text, without looking for its end first.
+ghost use Rattle.std.specs.Prelude.{◌≡◌, ◌++◌, ◌∷◌, ◌≤◌, [], IfOk, IfSome, decimal, length, true};
+ghost use Rattle.log_lines.specs.Prelude.{byte_of, written_in, AllByRecursion, FitsChange, HasGenomeLength, IsSmall, in_order};
+ghost use Rattle.log_lines.specs.Line.{base_word, birth_values, change_text, changes_word, decimals, over_word};
+ghost use Rattle.log_lines.specs.LineText.{line_text, spaced_word, words_text, HasForm, IsLarge};
+
+use crate::birth::Birth;
+use crate::fields::{base, is_in_order, no_changes};
+use crate::reading::{Arrival, Newborn};
+use crate::words::split_at;
+use avida_port::Memory;
+use instruction_set::Letter;
+use mutations::{Base, Change, Changes, Origin};
+use numerals::leading_number;
+use std::alloc::Global;
+use std::mem;
+
+/// What follows the byte in front, where it is this one.
+#[inline(always)]
+fn behind(front: u8, text: &[u8]) -> Option<&[u8]>
+    ensures { IfSome result (λ behind. text.now ≡ front ∷ behind.now) }
+{
+    match text {
+        [byte, behind @ ..] => { if *byte == front { Some(behind) } else { None } }
+        [] => None,
+    }
+}
+
+/// A place in a genome, and what follows its digits.
+#[inline(always)]
+fn place_front(text: &[u8]) -> Option<(u32, &[u8])>
+    ensures { IfSome result (λ p. text.now ≡ decimal p.0 ++ p.1.now) }
+{
+    let (value, len) = leading_number(0, u64::from(u32::MAX), text)?;
+    Some((value as u32, &text[len..]))
+}
+
+/// A space, a number below 2 ^ 32, and what follows its digits.
+#[inline(always)]
+fn small_front(text: &[u8]) -> Option<(u32, &[u8])>
+    ensures { IfSome result (λ p. text.now ≡ spaced_word (decimal p.0) ++ p.1.now) }
+{
+    place_front(behind(b' ', text)?)
+}
+
+/// A space, a number below 2 ^ 64, and what follows its digits.
+#[inline(always)]
+fn large_front(text: &[u8]) -> Option<(u64, &[u8])>
+    ensures { IfSome result (λ p. text.now ≡ spaced_word (decimal p.0) ++ p.1.now) }
+{
+    let digits = behind(b' ', text)?;
+    let (value, len) = leading_number(0, u64::MAX, digits)?;
+    Some((value, &digits[len..]))
+}
+
+/// Who stood in a cell, behind a space, and what follows.
+#[inline(always)]
+fn over_front(text: &[u8]) -> Option<(Option<u64>, &[u8])>
+    ensures { IfSome result (λ p. text.now ≡ spaced_word (over_word p.0) ++ p.1.now) }
+{
+    match text {
+        [b' ', b'-', behind @ ..] => Some((None, behind)),
+        _ => {
+            let (id, behind) = large_front(text)?;
+            Some((Some(id), behind))
+        }
+    }
+}
+
+/// The fields of a birth before its record, each behind a space, and what follows.
+fn newborn_front(text: &[u8]) -> Option<(Newborn, &[u8])>
+    ensures text { IfSome result (λ p. text.now ≡ words_text (decimals (p.0.id ∷ p.0.parent
+        ∷ p.0.arrival.update ∷ p.0.arrival.cell ∷ []) ++ over_word p.0.arrival.over ∷ [])
+        ++ p.1.now) }
+    ensures form { IfSome result (λ p. IsLarge p.0.id × IsLarge p.0.parent
+        × IsSmall p.0.arrival.update × IsSmall p.0.arrival.cell × IfSome p.0.arrival.over IsLarge) }
+{
+    let (id, rest) = large_front(text)?;
+    let (parent, rest) = large_front(rest)?;
+    let (update, rest) = small_front(rest)?;
+    let (cell, rest) = small_front(rest)?;
+    let (over, rest) = over_front(rest)?;
+    let arrival = Arrival { update, cell, over };
+    let newborn = Newborn {
+        id,
+        parent,
+        arrival,
+    };
+    Some((newborn, rest))
+}
+
+/// The letters of a written base, and what follows the space behind them.
+fn written_front(alloc: Global, text: &[u8]) -> Result<Option<(Base, &[u8])>, Memory>
+    ensures text { IfOk result (λ found. IfSome found (λ p. text.now
+        ≡ base_word (written_in p.0) ++ spaced_word p.1.now)) }
+    ensures form { IfOk result (λ found.
+        IfSome found (λ p. IfSome (written_in p.0) HasGenomeLength)) }
+{
+    let (word, others) = split_at(text, b' ');
+    let Some(behind) = others else {
+        return Ok(None);
+    };
+    match base(alloc, word)? {
+        Some(value) => Ok(Some((value, behind))),
+        None => Ok(None),
+    }
+}
+
+/// A space, the base of a birth, and what follows the space behind it.
+fn base_front(alloc: Global, text: &[u8]) -> Result<Option<(Base, &[u8])>, Memory>
+    ensures text { IfOk result (λ found. IfSome found (λ p. text.now
+        ≡ spaced_word (base_word (written_in p.0)) ++ spaced_word p.1.now)) }
+    ensures form { IfOk result (λ found.
+        IfSome found (λ p. IfSome (written_in p.0) HasGenomeLength)) }
+{
+    match text {
+        [b' ', b'=', b' ', behind @ ..] => Ok(Some((Base::Parent, behind))),
+        [b' ', letters @ ..] => written_front(alloc, letters),
+        _ => Ok(None),
+    }
+}
+
+/// A letter, and what follows it.
+fn letter_front(text: &[u8]) -> Option<(Letter, &[u8])>
+    ensures { IfSome result (λ p. text.now ≡ byte_of p.0 ∷ p.1.now) }
+{
+    match text {
+        [byte, behind @ ..] => {
+            let letter = Letter::from_byte(*byte)?;
+            Some((letter, behind))
+        }
+        [] => None,
+    }
+}
+
+/// A change with this mark, such as `p`, from behind it, and what follows.
+fn change_behind(mark: u8, text: &[u8]) -> Option<(Change, &[u8])>
+    ensures text { IfSome result (λ p. mark ∷ text.now ≡ change_text p.0 ++ p.1.now) }
+    ensures form { IfSome result (λ p. FitsChange p.0) }
+    ensures shorter { IfSome result (λ p. length p.1.now ≤ length text.now) }
+{
+    let (at, behind) = place_front(text)?;
+    match mark {
+        b'p' => {
+            let (letter, left) = letter_front(behind)?;
+            Some((Change::Point { at, letter }, left))
+        }
+        b'i' => {
+            let (letter, left) = letter_front(behind)?;
+            Some((Change::Insert { at, letter }, left))
+        }
+        b'd' => Some((Change::Delete { at }, behind)),
+        _ => None,
+    }
+}
+
+/// Changes in any order, up to the end of the line, and what follows its newline.
+fn list_front<'a>(
+    spare: Vec<Change>,
+    text: &'a [u8],
+) -> Result<Option<(Vec<Change>, &'a [u8])>, Memory>
+    ensures text { IfOk result (λ found. IfSome found (λ p. text.now
+        ≡ changes_word p.0.items ++ 10 ∷ p.1.now)) }
+    ensures form { IfOk result (λ found.
+        IfSome found (λ p. AllByRecursion FitsChange p.0.items)) }
+{
+    let mut found = spare;
+    found.clear();
+    let mut left = text;
+    while let [mark, rest @ ..] = left {
+        let Some((one, others)) = change_behind(*mark, rest) else {
+            return Ok(None);
+        };
+        found.push(one)?;
+        let Some(further) = behind(b',', others) else {
+            let Some(further) = behind(b'\n', others) else {
+                return Ok(None);
+            };
+            return Ok(Some((found, further)));
+        };
+        left = further;
+    }
+    Ok(None)
+}
+
+/// The changes of a birth, up to the end of the line, and what follows its newline.
+fn changes_front<'a>(
+    spare: Vec<Change>,
+    text: &'a [u8],
+) -> Result<Option<(Changes, &'a [u8])>, Memory>
+    ensures text { IfOk result (λ found. IfSome found (λ p. text.now
+        ≡ changes_word p.0 ++ 10 ∷ p.1.now)) }
+    ensures form { IfOk result (λ found. IfSome found (λ p. AllByRecursion FitsChange p.0)) }
+    ensures order { IfOk result (λ found. IfSome found (λ p. in_order p.0 ≡ true)) }
+{
+    if let [b'-', b'\n', behind @ ..] = text {
+        return Ok(Some((no_changes(spare), behind)));
+    }
+    match list_front(spare, text)? {
+        Some((found, behind)) => {
+            if is_in_order(&found) {
+                Ok(Some((Changes::from_vec(found), behind)))
+            } else {
+                Ok(None)
+            }
+        }
+        None => Ok(None),
+    }
+}
+
+/// Reads a birth's line, with its newline, off the front of the text into `birth`, in place of what
+/// it holds, and gives what follows. It may give None also where such a line is in front. Then, and
+/// after an error, `birth` may hold anything.
+pub fn birth_front<'a>(
+    alloc: Global,
+    birth: &mut Birth,
+    text: &'a [u8],
+) -> Result<Option<&'a [u8]>, Memory>
+    ensures text { IfOk result (λ found. IfSome found (λ behind. text.now
+        ≡ line_text (birth_values birth.new) ++ behind.now)) }
+    ensures form { IfOk result (λ found. IfSome found (λ behind. HasForm (birth_values birth.new))) }
+{
+    let [b'B', fields @ ..] = text else {
+        return Ok(None);
+    };
+    let Some((newborn, rest)) = newborn_front(fields) else {
+        return Ok(None);
+    };
+    let Some((base, rest)) = base_front(alloc, rest)? else {
+        return Ok(None);
+    };
+    let spare = mem::replace(&mut birth.origin.changes, Changes::none(alloc));
+    let Some((changes, behind)) = changes_front(spare.into_vec(), rest)? else {
+        return Ok(None);
+    };
+    birth.id = newborn.id;
+    birth.parent = newborn.parent;
+    birth.update = newborn.arrival.update;
+    birth.cell = newborn.arrival.cell;
+    birth.over = newborn.arrival.over;
+    birth.origin = Origin { base, changes };
+    Ok(Some(behind))
+}
