@@ -14,8 +14,7 @@ use std::rc::Rc;
 #[derive(Drop)]
 pub struct People {
     genomes: Vec<Option<Rc<Genome>>>,
-    /// The boxes of those who were forgotten, for those who come. With the genomes that are kept
-    /// they are no more than there ever were at once.
+    /// The boxes of those who were forgotten last, for those who come.
     boxes: Vec<Rc<Genome>>,
     /// Room for the letters of the next child.
     room: Vec<Letter>,
@@ -82,9 +81,12 @@ impl People {
         }
     }
 
+    /// The boxes of those who were forgotten before go, so that no more are kept than the dead of
+    /// one update had.
     pub fn forget_all(&mut self, ids: &[u64])
         ensures { self.new ≡ fold (λ people id. slice_set people id None) self.old ids.now }
     {
+        self.boxes.clear();
         for id in ids {
             self.forget(*id);
         }
