@@ -17,8 +17,7 @@ use Rattle.avida_program.specs.Input.{GivenBy, IsInputWith, ReadsLines, ReadsSta
 use Rattle.avida_program.specs.Status.{Ended, status_of}
 use Rattle.avida_program.specs.TraceText.{trace_text}
 
--- an input is read and its text written: whole where all is done, a prefix where a put fails or
--- memory runs out, and nothing of an input that is refused or not read
+-- the text of an input is written whole, or a prefix where a put fails or memory runs out, or none
 abbrev pub ReadsInput : {A : Type 0} →
     Option ℕ → (Result A Refusal → Type 0) → (A → List ℕ) → Work → Ended → Type 0
 ReadsInput looks reading text work (Ok done) = (work.source.after.left ≡ Some [])
@@ -113,8 +112,7 @@ pub record CarriesOut (command : Command) (work : Work) (ended : Ended) : Type 0
   pub words : ended ≢ Err error.BadWords
   pub read_fault : ended ≡ Err error.ReadFault → SourceFailed work.source
   pub write_fault : ended ≡ Err error.WriteFault → PutFailed (looks_of command) work.out work.watch
-  -- what stays: the watch without a watcher, and the last world but where all is done and the
-  -- command leaves one
+  -- what stays: the watch without a watcher, and the last world unless a finished command leaves one
   pub watch_stays : looks_of command ≡ None → Stays work.watch
   pub last_stays : OnErr ended (Stays work.last)
   pub no_world : leaves_world command ≡ false → Stays work.last

@@ -10,8 +10,7 @@ pub record CanResume (config : ConfigValues) (more : ℕ) : Type 0 where
   pub short : length (save_text config) ≤ 536870912
   pub updates : config.updates + more ≤ 1000000
 
--- `resume` reads what `save` writes of a run; the log without its last line, and then what `resume`
--- writes, are the log of a run so much longer
+-- `resume` reads what `save` writes, and goes on from the log, but for its last line, as a longer run
 pub record ResumesExactly (config : ConfigValues) (more : ℕ) : Type 0 where
   pub log : List ℕ
   pub is_log : log ++ end_text config.updates ≡ run_text config

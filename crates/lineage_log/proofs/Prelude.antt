@@ -4,7 +4,7 @@ unfoldable pub use Rattle.lineage_log.specs.Ancestry.{kept_of, line_of_descent}
 pub use Rattle.lineage_log.specs.LineWalk.{LinesRead, after_told, ended, last_end, one_piece, pieces_read}
 pub use Rattle.lineage_log.specs.LogGrammar.{IsGoodLog, Reads, lines_text, log_answer, newer, pieces_log, stop_at, upgraded, with_line}
 unfoldable pub use Rattle.lineage_log.specs.LogGrammar.{log_of}
-pub use Rattle.lineage_log.specs.LogReading.{IsAtStart, TellsNext, TellsPiece, left_of, place_of}
+pub use Rattle.lineage_log.specs.LogReading.{IsAtStart, TellsNext, left_of, place_of}
 pub use Rattle.lineage_log.specs.Nodes.{AreFamilies, AreNeededBut, AreNodes, IsInFamily, IsSettled, NodeValue, as_child, children_of, id_order, is_needed, links_of, living_ids_of, node_at, node_link, tree_of}
 pub use Rattle.lineage_log.specs.NumberedLines.{BeginsWith, EndsWith, Fault, HasGoodLines, LineKind, NoLine, OutOfOrder, Unended, and_on, text_of_lines, told_each}
 pub use Rattle.lineage_log.specs.Order.{After, Before, IsWhole, LogPlace, Within, opened, told, told_all, within_if}

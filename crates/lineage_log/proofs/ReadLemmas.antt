@@ -1,8 +1,8 @@
 -- The loop over the pieces of a log.
-use Rattle.std.proofs.Common.{◌≡◌, ℕ, ◌+◌, List, [], ◌∷◌, ◌++◌, Option, Some, None, Result, Ok, Err, Bor, length, length-append, ◌<◌, arith, refl, sym, ap, ◌∙◌, append_assoc, zero-add}
-use Rattle.std.specs.Prelude.{◌≢◌, ◌↔◌, option_copied}
-use Rattle.lineage_log.proofs.Prelude.{HasForm, line_text, row_text, split_first, Line, line_of, Reason, Refusal, LogStop, LogPlace, told, LogReader, TellsPiece, left_of, place_of, Tells, stop_of, stop_at, with_line, pieces_log, log_kind, log_of, lines_text, Reads, IsGoodLog}
-use Rattle.log_lines.specs.Words.{pieces_of}
+use Rattle.std.proofs.Common.{◌≡◌, ℕ, ◌+◌, List, [], ◌∷◌, ◌++◌, Some, None, Result, Ok, Err, length-append, arith, refl, sym, ap, ◌∙◌, append_assoc, zero-add}
+use Rattle.std.specs.Prelude.{◌≢◌, ◌↔◌, OnOk}
+use Rattle.lineage_log.proofs.Prelude.{row_text, split_first, Line, line_of, Reason, Refusal, LogStop, LogPlace, told, LogReader, left_of, place_of, Tells, stop_of, stop_at, with_line, pieces_log, log_kind, log_of, lines_text, Reads, IsGoodLog}
+use Rattle.log_lines.specs.LineReading.{StartsWith}
 use Rattle.lineage_log.specs.declared.refusal.Refusal.TheVariants.{Memory, Faulty}
 use Rattle.lineage_log.specs.declared.log_stop.LogStop.TheVariants as wanting
 use Rattle.lineage_log.proofs.LineWalkLaws.{cut, more_pieces}
@@ -28,15 +28,6 @@ front_more front one (Ok lines) =
     ap (λ (l : List Line). Ok l) (sym (append_assoc front (one ∷ []) lines))
 front_more front one (Err fault) = refl
 
--- what is left of a log begins with a piece before a newline
-pub next_piece : (reader : LogReader) (piece : List ℕ) (others : Option (Bor (List ℕ)))
-    (behind : Bor (List ℕ)) → cut reader.rest.now ≡ piece ∷ pieces_of 10 (option_copied others)
-    → others ≡ Some behind
-    → left_of reader ≡ pieces_log reader.number (place_of reader.place) (piece ∷ cut behind.now)
-next_piece reader piece others behind split is =
-    ap (λ (ps : List (List ℕ)). pieces_log reader.number (place_of reader.place) ps)
-    (rw is at split)
-
 module _ (number : ℕ) (place : LogPlace) (piece rest : List ℕ) where
   -- a piece that is no line is the fault
   pub bad_line : line_of piece ≡ None
@@ -60,15 +51,6 @@ module _ (number : ℕ) (place : LogPlace) (piece rest : List ℕ) where
       rw (more_pieces log_kind line_of place piece rest, is, good)
       (line_counted number after one _ _ more)
 
-  -- a piece that was not taken is the fault, for the same reason
-  pub refused_piece : (refusal : Refusal) (stop : LogStop) (after : LogPlace)
-      → stop ≡ stop_of number refusal → (stop ≢ wanting.Memory)
-      → TellsPiece (Err refusal) (line_of piece) place after
-      → pieces_log number place (piece ∷ cut rest) ≡ Err stop
-  refused_piece Memory stop after is other tells = absurd (other is)
-  refused_piece (Faulty reason) stop after is other tells =
-      bad_order tells.0 reason tells.1 tells.2 ∙ ap (λ (s : LogStop). Err s) (sym is)
-
 -- what is read of bytes is a good log that has them as its text
 abbrev pub ReadsExactly : Type 0
 ReadsExactly = (bytes : List ℕ) (lines : List Line) → Reads bytes lines
@@ -89,28 +71,11 @@ refused Memory number stop next t read is other told faulty = absurd (other is)
 refused (Faulty reason) number stop next t read is other told faulty =
     faulty reason told ∙ ap (λ (s : LogStop). Err s) (sym is)
 
--- a reader that goes on behind a line that was told has read it
-pub reads_line : (before next after : LogReader) (line : Line) (piece left : List ℕ)
-    → GoesOn next after left → next.number ≡ before.number
-    → left_of before ≡ pieces_log before.number (place_of before.place) (piece ∷ cut left)
-    → line_of piece ≡ Some line → told (place_of before.place) line ≡ Ok (place_of next.place)
-    → length left < length before.rest.now → ReadsLine line before after
-reads_line before next after line piece left goes same is has good short =
-    let n = before.number in
-    let behind : left_of after ≡ pieces_log (n + 1) (place_of next.place) (cut left) =
-    rw (goes.number, same, goes.place, goes.rest) refl in
-    record {
-      left = is ∙ good_line n (place_of before.place) piece left line (place_of next.place) (n + 1)
-          has good refl ∙ ap (with_line line) (sym behind);
-      told = good ∙ ap (λ (p : code.LogPlace). Ok (place_of p)) (sym goes.place);
-      shorter = rw goes.rest short;
-    }
-
 module _ (reader : LogReader) (line : Line) (left : List ℕ)
-    (text : reader.rest.now ≡ line_text line ++ left) (form : HasForm line) where
+    (front : StartsWith reader.rest.now line left) where
   -- the bytes that are left begin with the text of a line
   row_front : reader.rest.now ≡ row_text line ++ 10 ∷ left
-  row_front = text ∙ append_assoc (row_text line) (10 ∷ []) left
+  row_front = front.text ∙ append_assoc (row_text line) (10 ∷ []) left
 
   -- which is the first piece of what is left of the log
   line_first : left_of reader
@@ -118,15 +83,11 @@ module _ (reader : LogReader) (line : Line) (left : List ℕ)
   line_first =
       ap (λ (bytes : List ℕ). pieces_log reader.number (place_of reader.place) (cut bytes)) row_front
       ∙ ap (λ (ps : List (List ℕ)). pieces_log reader.number (place_of reader.place) ps)
-      (split_first 10 (row_text line) left (lines_spell.one_line line form))
+      (split_first 10 (row_text line) left (lines_spell.one_line line front.form))
 
   -- and is read as the line
   is_line : line_of (row_text line) ≡ Some line
-  is_line = lines_spell.again line form
-
-  -- behind it less is left
-  less_left : length left < length reader.rest.now
-  less_left = rw row_front (omega (arith, length-append (row_text line) (10 ∷ left)))
+  is_line = lines_spell.again line front.form
 
   -- where it is out of order, that is the fault
   pub line_refused : (refusal : Refusal) (stop : LogStop) (next : LogPlace)
@@ -139,9 +100,20 @@ module _ (reader : LogReader) (line : Line) (left : List ℕ)
       (λ reason faulty. line_first ∙ bad_order reader.number (place_of reader.place)
       (row_text line) left line reason is_line faulty)
 
-  -- where it is told, it is read
-  pub line_read : (next after : LogReader) → GoesOn next after left → next.number ≡ reader.number
-      → told (place_of reader.place) line ≡ Ok (place_of next.place) → ReadsLine line reader after
-  line_read next after goes same good =
-      reads_line reader next after line (row_text line) left goes same line_first is_line good
-      less_left
+  -- where it is told, a reader that goes on behind it has read it
+  pub line_read : (passed : Result (Unit {0}) LogStop) (next after : LogReader)
+      → OnOk passed (GoesOn next after left) → next.number ≡ reader.number
+      → told (place_of reader.place) line ≡ Ok (place_of next.place)
+      → OnOk passed (ReadsLine line reader after)
+  line_read (Err stop) next after goes same good = tt
+  line_read (Ok done) next after goes same good =
+      let n = reader.number in
+      let behind : left_of after ≡ pieces_log (n + 1) (place_of next.place) (cut left) =
+      rw (goes.number, same, goes.place, goes.rest) refl in
+      record {
+        left = line_first ∙ good_line n (place_of reader.place) (row_text line) left line
+            (place_of next.place) (n + 1) is_line good refl ∙ ap (with_line line) (sym behind);
+        told = good ∙ ap (λ (p : code.LogPlace). Ok (place_of p)) (sym goes.place);
+        shorter = rw (goes.rest, row_front)
+            (omega (arith, length-append (row_text line) (10 ∷ left)));
+      }

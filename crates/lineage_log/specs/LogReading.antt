@@ -4,12 +4,10 @@ use Rattle.lineage_log.specs.declared.place.LogPlace as code
 use Rattle.lineage_log.specs.declared.place.LogPlace.TheVariants as place
 use Rattle.lineage_log.specs.Readings.{reader_of}
 use Rattle.lineage_log.specs.Order.{LogPlace, Before, Within, After, told, IsWhole}
-use Rattle.std.specs.Prelude.{◌≡◌, ◌≢◌, ℕ, ◌+◌, ◌<◌, List, [], length, Option, Some, None, Result, Ok, Err, Bool, true, false, ⊤, ◌==◌}
+use Rattle.std.specs.Prelude.{◌≡◌, ◌≢◌, ℕ, ◌+◌, ◌<◌, List, [], length, Option, Some, None, Result, Ok, Err, Bool, true, false, ◌==◌}
 use Rattle.lineage_log.specs.declared.log_stop.LogStop.{LogStop}
 use Rattle.lineage_log.specs.declared.log_stop.LogStop.TheVariants as stop
 use Rattle.lineage_log.specs.declared.log_reader.LogReader.{LogReader}
-use Rattle.lineage_log.specs.declared.refusal.Refusal.{Refusal}
-use Rattle.lineage_log.specs.declared.refusal.Refusal.TheVariants.{Memory, Faulty}
 use Rattle.lineage_log.specs.LogGrammar.{pieces_log, with_line}
 
 -- the place of a reader
@@ -53,15 +51,6 @@ abbrev pub GivesNext : Result (Option LogLine) LogStop → LogReader → LogRead
 GivesNext (Ok (Some line)) before after = ReadsLine (line_values line) before after
 GivesNext (Ok None) before after = IsRead before after
 GivesNext (Err e) before after = e ≢ stop.Memory → left_of before ≡ Err e
-
--- a piece leads to this place, is no line, or why it is faulty; running out of memory says nothing
-abbrev pub TellsPiece : Result Bool Refusal → Option Line → LogPlace → LogPlace → Type 0
-TellsPiece (Ok true) piece before after =
-    (line : Line) × (piece ≡ Some line) × (told before line ≡ Ok after)
-TellsPiece (Ok false) piece _ _ = piece ≡ None
-TellsPiece (Err Memory) piece _ _ = ⊤
-TellsPiece (Err (Faulty reason)) piece before after =
-    (line : Line) × (piece ≡ Some line) × (told before line ≡ Err reason)
 
 -- what the next line does: it is told, the end, or the fault; running out of memory says nothing
 abbrev pub TellsNext : Result Bool LogStop → LogReader → LogReader → Type 0

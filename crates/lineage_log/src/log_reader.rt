@@ -1,8 +1,9 @@
 // Reads the lines of a log one after another.
-ghost use Rattle.std.specs.Prelude.{◌≡◌, ◌<◌, Err, OnErr, OnOk};
-ghost use Rattle.lineage_log.specs.Prelude.{birth_values, line_of};
+ghost use Rattle.std.specs.Prelude.{◌≡◌, ◌≢◌, ◌∷◌, ◌==◌, Err, IfErr, IfOk, OnOk};
+ghost use Rattle.lineage_log.specs.Prelude.{birth_values, line_values, slice_split};
+ghost use Rattle.log_lines.specs.LineReading.{StartsWith};
 ghost use Rattle.lineage_log.specs.LogGrammar.{last_piece};
-ghost use Rattle.lineage_log.specs.LogReading.{place_of, EndsAt, GivesNext, GoesOn, IsAtStart, TellsNext, TellsPiece};
+ghost use Rattle.lineage_log.specs.LogReading.{left_of, place_of, EndsAt, GivesNext, GoesOn, IsAtStart, ReadsLine, TellsNext};
 ghost use Rattle.lineage_log.specs.Readings.{Tells, stop_of};
 ghost use Rattle.lineage_log.specs.Order.{told};
 
@@ -10,7 +11,7 @@ use crate::log_stop::LogStop;
 use crate::place::{LogPlace, tell};
 use crate::reason::Reason;
 use crate::refusal::{OUT_OF_ORDER, Refusal};
-use log_lines::{Birth, LogLine, birth_front, read_line, split_at};
+use log_lines::{Birth, Front, LogLine, read_front, read_line};
 use std::alloc::Global;
 
 /// A log that is read line by line. It keeps none of the lines.
@@ -66,7 +67,7 @@ fn end_at(number: u64, place: &LogPlace, piece: &[u8]) -> Result<(), LogStop>
 /// Goes on behind a line.
 fn pass<'a>(reader: &mut LogReader<'a>, behind: &'a [u8]) -> Result<(), LogStop>
     ensures ok { OnOk result (GoesOn reader.old reader.new behind.now) }
-    ensures err { OnErr result (result ≡ Err LogStop.Memory) }
+    ensures err { IfErr result (λ stop. stop ≡ LogStop.Memory) }
 {
     let Some(next) = reader.number.checked_add(1) else {
         return Err(LogStop::Memory);
@@ -76,40 +77,21 @@ fn pass<'a>(reader: &mut LogReader<'a>, behind: &'a [u8]) -> Result<(), LogStop>
     Ok(())
 }
 
-/// As `next_line`, for a line of any form.
-fn next_other(alloc: Global, reader: &mut LogReader<'_>) -> Result<Option<LogLine>, LogStop>
-    ensures { GivesNext result reader.old reader.new }
+/// Tells the line in front of what is left, and goes on behind it.
+fn take_line<'a>(
+    alloc: Global,
+    reader: &mut LogReader<'a>,
+    line: &LogLine,
+    behind: &'a [u8],
+) -> Result<(), LogStop>
+    requires front { StartsWith reader.old.rest.now (line_values line.now) behind.now }
+    ensures ok { OnOk result (ReadsLine (line_values line.now) reader.old reader.new) }
+    ensures fault { IfErr result (λ stop. stop ≢ LogStop.Memory → left_of reader.old ≡ Err stop) }
 {
-    let number = reader.number;
-    let (piece, others) = split_at(reader.rest, b'\n');
-    let Some(behind) = others else {
-        end_at(number, &reader.place, piece)?;
-        return Ok(None);
-    };
-    let Some(line) = read_line(alloc, piece)? else {
-        return Err(LogStop::BadLine { line: number });
-    };
-    if let Err(refusal) = tell(alloc, &mut reader.place, &line) {
-        return Err(stop_for(refusal, number));
-    }
-    pass(reader, behind)?;
-    Ok(Some(line))
-}
-
-/// The next line, or None at the end of a whole log. After an error the reader is not used again.
-/// Most lines are births, so these are tried first.
-pub fn next_line(alloc: Global, reader: &mut LogReader<'_>) -> Result<Option<LogLine>, LogStop>
-    ensures { GivesNext result reader.old reader.new }
-{
-    let Some(behind) = birth_front(alloc, &mut reader.birth, reader.rest)? else {
-        return next_other(alloc, reader);
-    };
-    let line = reader.birth.take_line(alloc);
-    if let Err(refusal) = tell(alloc, &mut reader.place, &line) {
+    if let Err(refusal) = tell(alloc, &mut reader.place, line) {
         return Err(stop_for(refusal, reader.number));
     }
-    pass(reader, behind)?;
-    Ok(Some(line))
+    pass(reader, behind)
 }
 
 /// A birth more. After an error the place is not used again.
@@ -131,50 +113,78 @@ fn tell_birth(alloc: Global, place: &mut LogPlace, birth: &Birth) -> Result<(), 
     }
 }
 
-/// Tells the line of a piece, and says whether it is one.
-fn tell_line(alloc: Global, place: &mut LogPlace, piece: &[u8]) -> Result<bool, Refusal>
-    ensures { TellsPiece result (line_of piece.now) (place_of place.old) (place_of place.new) }
+/// Tells the birth that was read last, whose line is in front of what is left, and goes on behind it.
+fn take_birth<'a>(
+    alloc: Global,
+    reader: &mut LogReader<'a>,
+    behind: &'a [u8],
+) -> Result<(), LogStop>
+    requires front { StartsWith reader.old.rest.now (birth_values reader.old.birth) behind.now }
+    ensures ok { OnOk result (ReadsLine (birth_values reader.old.birth) reader.old reader.new) }
+    ensures fault { IfErr result (λ stop. stop ≢ LogStop.Memory → left_of reader.old ≡ Err stop) }
 {
-    match read_line(alloc, piece)? {
-        Some(line) => {
-            tell(alloc, place, &line)?;
-            Ok(true)
-        }
-        None => Ok(false),
-    }
-}
-
-/// As `tell_next`, for a line of any form.
-fn tell_other(alloc: Global, reader: &mut LogReader<'_>) -> Result<bool, LogStop>
-    ensures { TellsNext result reader.old reader.new }
-{
-    let number = reader.number;
-    let (piece, others) = split_at(reader.rest, b'\n');
-    let Some(behind) = others else {
-        end_at(number, &reader.place, piece)?;
-        return Ok(false);
-    };
-    match tell_line(alloc, &mut reader.place, piece) {
-        Ok(true) => {}
-        Ok(false) => return Err(LogStop::BadLine { line: number }),
-        Err(refusal) => return Err(stop_for(refusal, number)),
-    }
-    pass(reader, behind)?;
-    Ok(true)
-}
-
-/// Tells the next line, and says whether there was one: none is left at the end of a whole log.
-/// After an error the reader is not used again. Most lines are births, so these are tried first, and
-/// each is read into `birth`, in place of the one before.
-pub fn tell_next(alloc: Global, reader: &mut LogReader<'_>) -> Result<bool, LogStop>
-    ensures { TellsNext result reader.old reader.new }
-{
-    let Some(behind) = birth_front(alloc, &mut reader.birth, reader.rest)? else {
-        return tell_other(alloc, reader);
-    };
     if let Err(refusal) = tell_birth(alloc, &mut reader.place, &reader.birth) {
         return Err(stop_for(refusal, reader.number));
     }
-    pass(reader, behind)?;
-    Ok(true)
+    pass(reader, behind)
+}
+
+/// Reads and tells the line whose text is in front of what is left, and goes on behind it.
+fn take_text<'a>(
+    alloc: Global,
+    reader: &mut LogReader<'a>,
+    text: &[u8],
+    behind: &'a [u8],
+) -> Result<LogLine, LogStop>
+    requires front { slice_split (λ b. b == 10) reader.old.rest.now
+        ≡ text.now ∷ slice_split (λ b. b == 10) behind.now }
+    ensures ok { IfOk result (λ line. ReadsLine (line_values line) reader.old reader.new) }
+    ensures fault { IfErr result (λ stop. stop ≢ LogStop.Memory → left_of reader.old ≡ Err stop) }
+{
+    let Some(line) = read_line(alloc, text)? else {
+        return Err(LogStop::BadLine {
+            line: reader.number,
+        });
+    };
+    take_line(alloc, reader, &line, behind)?;
+    Ok(line)
+}
+
+/// The next line, or None at the end of a whole log. After an error the reader is not used again.
+pub fn next_line(alloc: Global, reader: &mut LogReader<'_>) -> Result<Option<LogLine>, LogStop>
+    ensures { GivesNext result reader.old reader.new }
+{
+    match read_front(alloc, &mut reader.birth, reader.rest)? {
+        Front::Birth(behind) => {
+            let line = reader.birth.take_line(alloc);
+            take_line(alloc, reader, &line, behind)?;
+            Ok(Some(line))
+        }
+        Front::Text(text, behind) => Ok(Some(take_text(alloc, reader, text, behind)?)),
+        Front::NoNewline => {
+            end_at(reader.number, &reader.place, reader.rest)?;
+            Ok(None)
+        }
+    }
+}
+
+/// Tells the next line, and says whether there was one: none is left at the end of a whole log.
+/// After an error the reader is not used again.
+pub fn tell_next(alloc: Global, reader: &mut LogReader<'_>) -> Result<bool, LogStop>
+    ensures { TellsNext result reader.old reader.new }
+{
+    match read_front(alloc, &mut reader.birth, reader.rest)? {
+        Front::Birth(behind) => {
+            take_birth(alloc, reader, behind)?;
+            Ok(true)
+        }
+        Front::Text(text, behind) => {
+            take_text(alloc, reader, text, behind)?;
+            Ok(true)
+        }
+        Front::NoNewline => {
+            end_at(reader.number, &reader.place, reader.rest)?;
+            Ok(false)
+        }
+    }
 }

@@ -1,9 +1,11 @@
 -- What is read off the front of a text, and what follows it.
 use Rattle.std.proofs.Common.{◌≡◌, ◌<◌, ◌≤◌, ◌-◌, ◌^◌, ◌∙◌, ℕ, List, [], ◌∷◌, ◌++◌, Some, length, get_or, take, drop, refl, sym, ap, arith, append_assoc, decimal}
 use Rattle.std.specs.Prelude.{◌==◌}
-use Rattle.log_lines.proofs.Prelude.{slice_split, join_with_byte, join_with_byte-slice_split, Change, change_text, digits_len, leading_digits, number_of}
+use Rattle.log_lines.proofs.Prelude.{Line, line_of, row_text, slice_split, join_with_byte, join_with_byte-slice_split, Change, change_text, digits_len, leading_digits, number_of}
+use Rattle.log_lines.specs.LineReading.{StartsWith}
 use Rattle.log_lines.specs.Line.{changes_word}
 use Rattle.log_lines.proofs.FrontLemmas.{digits_split, tail_is}
+use Rattle.log_lines.proofs.LineLaws.{lines_spell}
 use Rattle.log_lines.proofs.WordLemmas.{split_some}
 use Rattle.numerals.proofs.SpellingLemmas.{numbers_spell}
 
@@ -25,20 +27,41 @@ number_front text value len most wide number far within =
     ∙ ap (λ (k : ℕ). decimal value ++ drop k text) (sym far)
     ∙ ap (λ (l : List ℕ). decimal value ++ l) (sym (tail_is len text within))
 
--- words behind a word, joined to it
-joined_behind : (word : List ℕ) (words : List (List ℕ)) → 0 < length words
-    → join_with_byte 32 (word ∷ words) ≡ word ++ 32 ∷ join_with_byte 32 words
-joined_behind word [] some = absurd (omega (arith, some))
-joined_behind word (next ∷ words) some = refl
+module _ (part : ℕ) where
+  -- pieces behind a piece, joined to it
+  joined_behind : (piece : List ℕ) (pieces : List (List ℕ)) → 0 < length pieces
+      → join_with_byte part (piece ∷ pieces) ≡ piece ++ part ∷ join_with_byte part pieces
+  joined_behind piece [] some = absurd (omega (arith, some))
+  joined_behind piece (next ∷ pieces) some = refl
 
--- a word before a space
-pub word_front : (text word behind : List ℕ) → slice_split (λ b. b == 32) text
-    ≡ word ∷ slice_split (λ b. b == 32) behind → text ≡ word ++ 32 ∷ behind
-word_front text word behind is =
-    sym (join_with_byte-slice_split 32 text)
-    ∙ ap (λ (ws : List (List ℕ)). join_with_byte 32 ws) is
-    ∙ joined_behind word (slice_split (λ b. b == 32) behind) (split_some 32 behind)
-    ∙ ap (λ (l : List ℕ). word ++ 32 ∷ l) (join_with_byte-slice_split 32 behind)
+  -- a piece before the part byte
+  pub piece_front : (text piece behind : List ℕ) → slice_split (λ b. b == part) text
+      ≡ piece ∷ slice_split (λ b. b == part) behind → text ≡ piece ++ part ∷ behind
+  piece_front text piece behind is =
+      sym (join_with_byte-slice_split part text)
+      ∙ ap (λ (ps : List (List ℕ)). join_with_byte part ps) is
+      ∙ joined_behind piece (slice_split (λ b. b == part) behind) (split_some part behind)
+      ∙ ap (λ (l : List ℕ). piece ++ part ∷ l) (join_with_byte-slice_split part behind)
+
+  -- a text that is one piece is that piece
+  pub only_piece : (text piece : List ℕ) → slice_split (λ b. b == part) text ≡ piece ∷ []
+      → piece ≡ text
+  only_piece text piece is =
+      ap (λ (ps : List (List ℕ)). join_with_byte part ps) (sym is)
+      ∙ join_with_byte-slice_split part text
+
+-- a line before a newline
+pub line_front : (text piece behind : List ℕ) (line : Line) → slice_split (λ b. b == 10) text
+    ≡ piece ∷ slice_split (λ b. b == 10) behind → line_of piece ≡ Some line
+    → StartsWith text line behind
+line_front text piece behind line is read =
+    let spelled = lines_spell.takes piece line read in
+    record {
+      text = piece_front 10 text piece behind is
+          ∙ ap (λ (p : List ℕ). p ++ 10 ∷ behind) (sym spelled.0)
+          ∙ sym (append_assoc (row_text line) (10 ∷ []) behind);
+      form = spelled.1;
+    }
 
 -- changes, each before a comma
 abbrev pub listed : List Change → List ℕ

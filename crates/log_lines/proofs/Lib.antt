@@ -13,4 +13,4 @@ pub mod GenomeLemmas
 mod FrontLemmas
 mod BeginLemmas
 mod MarkLemmas
-mod BirthFrontLemmas
+pub mod BirthFrontLemmas

@@ -1,6 +1,6 @@
 // Reads the fields of a line that are more than a number.
-ghost use Rattle.std.specs.Prelude.{◌≡◌, ◌∷◌, [], ◌&&◌, Some, None, IfOk, IfSome, option_copied, option_map, length, if◌then◌else◌};
-ghost use Rattle.log_lines.specs.Prelude.{byte_of, letter_of_byte, written_in, is_genome_length, change_may_follow, in_order};
+ghost use Rattle.std.specs.Prelude.{◌≡◌, ◌∷◌, [], ◌&&◌, Some, None, IfOk, option_copied, option_map, length, if◌then◌else◌};
+ghost use Rattle.log_lines.specs.Prelude.{letter_of_byte, written_in, is_genome_length, change_may_follow, in_order};
 ghost use Rattle.genome.specs.Genome as genome_spec;
 ghost use Rattle.log_lines.specs.Fields.{each, genome_of_word, list_of};
 ghost use Rattle.log_lines.specs.Kinds.{base_field, change_field, changes_field, read_change, read_lettered};

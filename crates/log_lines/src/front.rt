@@ -1,8 +1,9 @@
-// Reads a birth's line off the front of a text, without looking for its end first.
+// Reads a line off the front of a text, a birth's without looking for its end first.
 ghost use Rattle.std.specs.Prelude.{◌≡◌, ◌++◌, ◌∷◌, ◌≤◌, [], IfOk, IfSome, decimal, length, true};
 ghost use Rattle.log_lines.specs.Prelude.{byte_of, written_in, AllByRecursion, FitsChange, HasGenomeLength, IsSmall, in_order};
+ghost use Rattle.log_lines.specs.LineReading.{IsFront, StartsWith};
 ghost use Rattle.log_lines.specs.Line.{base_word, birth_values, change_text, changes_word, decimals, over_word};
-ghost use Rattle.log_lines.specs.LineText.{line_text, spaced_word, words_text, HasForm, IsLarge};
+ghost use Rattle.log_lines.specs.LineText.{spaced_word, words_text, IsLarge};
 
 use crate::birth::Birth;
 use crate::fields::{base, is_in_order, no_changes};
@@ -14,6 +15,17 @@ use mutations::{Base, Change, Changes, Origin};
 use numerals::leading_number;
 use std::alloc::Global;
 use std::mem;
+
+/// What stands in front of the text of lines.
+#[derive(Clone, Copy)]
+pub enum Front<'a> {
+    /// The line of a birth, which was read, and what follows its newline.
+    Birth(&'a [u8]),
+    /// A text that was not read, and what follows its newline.
+    Text(&'a [u8], &'a [u8]),
+    /// There is no newline.
+    NoNewline,
+}
 
 /// What follows the byte in front, where it is this one.
 #[inline(always)]
@@ -211,14 +223,13 @@ fn changes_front<'a>(
 /// Reads a birth's line, with its newline, off the front of the text into `birth`, in place of what
 /// it holds, and gives what follows. It may give None also where such a line is in front. Then, and
 /// after an error, `birth` may hold anything.
-pub fn birth_front<'a>(
+fn birth_front<'a>(
     alloc: Global,
     birth: &mut Birth,
     text: &'a [u8],
 ) -> Result<Option<&'a [u8]>, Memory>
-    ensures text { IfOk result (λ found. IfSome found (λ behind. text.now
-        ≡ line_text (birth_values birth.new) ++ behind.now)) }
-    ensures form { IfOk result (λ found. IfSome found (λ behind. HasForm (birth_values birth.new))) }
+    ensures { IfOk result (λ found. IfSome found (λ behind.
+        StartsWith text.now (birth_values birth.new) behind.now)) }
 {
     let [b'B', fields @ ..] = text else {
         return Ok(None);
@@ -240,4 +251,19 @@ pub fn birth_front<'a>(
     birth.over = newborn.arrival.over;
     birth.origin = Origin { base, changes };
     Ok(Some(behind))
+}
+
+/// What stands before the first newline of the text. The line of a birth may be read into `birth`, in
+/// place of what that holds, or be given as its text; else, and after an error, `birth` may hold
+/// anything.
+pub fn read_front<'a>(alloc: Global, birth: &mut Birth, text: &'a [u8]) -> Result<Front<'a>, Memory>
+    ensures { IfOk result (λ front. IsFront text.now birth.new front) }
+{
+    if let Some(behind) = birth_front(alloc, birth, text)? {
+        return Ok(Front::Birth(behind));
+    }
+    match split_at(text, b'\n') {
+        (piece, Some(behind)) => Ok(Front::Text(piece, behind)),
+        (_, None) => Ok(Front::NoNewline),
+    }
 }

@@ -14,7 +14,7 @@ mod writing;
 
 pub use birth::Birth;
 pub use fields::genome_letters;
-pub use front::birth_front;
+pub use front::{Front, read_front};
 pub use log_line::{LAST_VERSION, LogLine};
 pub use reading::{genome_last, read_line};
 pub use stats::Stats;
