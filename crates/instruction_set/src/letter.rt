@@ -132,11 +132,40 @@ impl Letter {
     }
 
     /// The letter of this row of the table, from 0.
+    #[tactic(auto, unfolding(crate::specs::Letter::letter_at))]
     pub fn from_index(index: u8) -> Option<Letter>
         ensures letter { result ≡ letter_at index }
         ensures none { IsNone result ↔ (26 ≤ index) }
     {
-        row(&LETTERS, index)
+        match index {
+            0 => Some(Letter::NopA),
+            1 => Some(Letter::NopB),
+            2 => Some(Letter::NopC),
+            3 => Some(Letter::IfNEqu),
+            4 => Some(Letter::IfLess),
+            5 => Some(Letter::IfLabel),
+            6 => Some(Letter::MovHead),
+            7 => Some(Letter::JmpHead),
+            8 => Some(Letter::GetHead),
+            9 => Some(Letter::SetFlow),
+            10 => Some(Letter::ShiftR),
+            11 => Some(Letter::ShiftL),
+            12 => Some(Letter::Inc),
+            13 => Some(Letter::Dec),
+            14 => Some(Letter::Push),
+            15 => Some(Letter::Pop),
+            16 => Some(Letter::SwapStk),
+            17 => Some(Letter::Swap),
+            18 => Some(Letter::Add),
+            19 => Some(Letter::Sub),
+            20 => Some(Letter::Nand),
+            21 => Some(Letter::HCopy),
+            22 => Some(Letter::HAlloc),
+            23 => Some(Letter::HDivide),
+            24 => Some(Letter::Io),
+            25 => Some(Letter::HSearch),
+            _ => None,
+        }
     }
 
     /// The letter that this byte spells.
@@ -154,13 +183,6 @@ impl Letter {
     {
         find_named(name)
     }
-}
-
-fn row(letters: &[Letter], index: u8) -> Option<Letter>
-    ensures row { result ≡ slice_get letters.now index }
-    ensures none { IsNone result ↔ (length letters.now ≤ index) }
-{
-    letters.get(usize::from(index)).copied()
 }
 
 #[tactic(auto, unfolding(crate::specs::Letter::letter_named))]

@@ -20,13 +20,14 @@ fn letters_of(alloc: Global, word: &[u8]) -> Result<Option<Vec<Letter>>, Memory>
         ≡ each letter_of_byte word.now) }
 {
     let mut letters = Vec::with_capacity(alloc, word.len())?;
+    let mut are_all = true;
+    // A loop without another way out takes sixteen bytes at a time.
     for byte in word {
-        match Letter::from_byte(*byte) {
-            Some(letter) => letters.push_reserved(letter),
-            None => return Ok(None),
-        }
+        let letter = Letter::from_byte(*byte);
+        are_all &= letter.is_some();
+        letters.push_reserved(letter.unwrap_or_default());
     }
-    Ok(Some(letters))
+    Ok(if are_all { Some(letters) } else { None })
 }
 
 fn is_genome_length(len: usize) -> bool

@@ -6,12 +6,11 @@ ghost use Rattle.log_lines.specs.Line.{base_word, birth_values, change_text, cha
 ghost use Rattle.log_lines.specs.LineText.{spaced_word, words_text, IsLarge};
 
 use crate::birth::Birth;
-use crate::fields::{base, is_in_order, no_changes};
-use crate::reading::{Arrival, Newborn};
+use crate::fields::{self, is_in_order, no_changes};
 use crate::words::split_at;
 use avida_port::Memory;
 use instruction_set::Letter;
-use mutations::{Base, Change, Changes, Origin};
+use mutations::{Base, Change, Changes};
 use numerals::leading_number;
 use std::alloc::Global;
 use std::mem;
@@ -79,55 +78,69 @@ fn over_front(text: &[u8]) -> Option<(Option<u64>, &[u8])>
     }
 }
 
-/// The fields of a birth before its record, each behind a space, and what follows.
-fn newborn_front(text: &[u8]) -> Option<(Newborn, &[u8])>
-    ensures text { IfSome result (λ p. text.now ≡ words_text (decimals (p.0.id ∷ p.0.parent
-        ∷ p.0.arrival.update ∷ p.0.arrival.cell ∷ []) ++ over_word p.0.arrival.over ∷ [])
-        ++ p.1.now) }
-    ensures form { IfSome result (λ p. IsLarge p.0.id × IsLarge p.0.parent
-        × IsSmall p.0.arrival.update × IsSmall p.0.arrival.cell × IfSome p.0.arrival.over IsLarge) }
+/// Reads the fields of a birth before its record, each behind a space, into `birth`, and gives what
+/// follows.
+fn numbers_front<'a>(birth: &mut Birth, text: &'a [u8]) -> Option<&'a [u8]>
+    ensures text { IfSome result (λ behind. text.now
+        ≡ words_text (decimals (birth.new.id ∷ birth.new.parent ∷ birth.new.update
+        ∷ birth.new.cell ∷ []) ++ over_word birth.new.over ∷ []) ++ behind.now) }
+    ensures form { IfSome result (λ behind. IsLarge birth.new.id × IsLarge birth.new.parent
+        × IsSmall birth.new.update × IsSmall birth.new.cell × IfSome birth.new.over IsLarge) }
 {
     let (id, rest) = large_front(text)?;
+    birth.id = id;
     let (parent, rest) = large_front(rest)?;
+    birth.parent = parent;
     let (update, rest) = small_front(rest)?;
+    birth.update = update;
     let (cell, rest) = small_front(rest)?;
+    birth.cell = cell;
     let (over, rest) = over_front(rest)?;
-    let arrival = Arrival { update, cell, over };
-    let newborn = Newborn {
-        id,
-        parent,
-        arrival,
-    };
-    Some((newborn, rest))
+    birth.over = over;
+    Some(rest)
 }
 
-/// The letters of a written base, and what follows the space behind them.
-fn written_front(alloc: Global, text: &[u8]) -> Result<Option<(Base, &[u8])>, Memory>
-    ensures text { IfOk result (λ found. IfSome found (λ p. text.now
-        ≡ base_word (written_in p.0) ++ spaced_word p.1.now)) }
+/// Reads the letters of a written base into `base`, and gives what follows the space behind them.
+fn written_front<'a>(
+    alloc: Global,
+    base: &mut Base,
+    text: &'a [u8],
+) -> Result<Option<&'a [u8]>, Memory>
+    ensures text { IfOk result (λ found. IfSome found (λ behind. text.now
+        ≡ base_word (written_in base.new) ++ spaced_word behind.now)) }
     ensures form { IfOk result (λ found.
-        IfSome found (λ p. IfSome (written_in p.0) HasGenomeLength)) }
+        IfSome found (λ behind. IfSome (written_in base.new) HasGenomeLength)) }
 {
     let (word, others) = split_at(text, b' ');
     let Some(behind) = others else {
         return Ok(None);
     };
-    match base(alloc, word)? {
-        Some(value) => Ok(Some((value, behind))),
+    match fields::base(alloc, word)? {
+        Some(written) => {
+            *base = written;
+            Ok(Some(behind))
+        }
         None => Ok(None),
     }
 }
 
-/// A space, the base of a birth, and what follows the space behind it.
-fn base_front(alloc: Global, text: &[u8]) -> Result<Option<(Base, &[u8])>, Memory>
-    ensures text { IfOk result (λ found. IfSome found (λ p. text.now
-        ≡ spaced_word (base_word (written_in p.0)) ++ spaced_word p.1.now)) }
+/// Reads a space and the base of a birth into `base`, and gives what follows the space behind it.
+fn base_front<'a>(
+    alloc: Global,
+    base: &mut Base,
+    text: &'a [u8],
+) -> Result<Option<&'a [u8]>, Memory>
+    ensures text { IfOk result (λ found. IfSome found (λ behind. text.now
+        ≡ spaced_word (base_word (written_in base.new)) ++ spaced_word behind.now)) }
     ensures form { IfOk result (λ found.
-        IfSome found (λ p. IfSome (written_in p.0) HasGenomeLength)) }
+        IfSome found (λ behind. IfSome (written_in base.new) HasGenomeLength)) }
 {
     match text {
-        [b' ', b'=', b' ', behind @ ..] => Ok(Some((Base::Parent, behind))),
-        [b' ', letters @ ..] => written_front(alloc, letters),
+        [b' ', b'=', b' ', behind @ ..] => {
+            *base = Base::Parent;
+            Ok(Some(behind))
+        }
+        [b' ', letters @ ..] => written_front(alloc, base, letters),
         _ => Ok(None),
     }
 }
@@ -234,22 +247,17 @@ fn birth_front<'a>(
     let [b'B', fields @ ..] = text else {
         return Ok(None);
     };
-    let Some((newborn, rest)) = newborn_front(fields) else {
+    let Some(rest) = numbers_front(birth, fields) else {
         return Ok(None);
     };
-    let Some((base, rest)) = base_front(alloc, rest)? else {
+    let Some(rest) = base_front(alloc, &mut birth.origin.base, rest)? else {
         return Ok(None);
     };
     let spare = mem::replace(&mut birth.origin.changes, Changes::none(alloc));
     let Some((changes, behind)) = changes_front(spare.into_vec(), rest)? else {
         return Ok(None);
     };
-    birth.id = newborn.id;
-    birth.parent = newborn.parent;
-    birth.update = newborn.arrival.update;
-    birth.cell = newborn.arrival.cell;
-    birth.over = newborn.arrival.over;
-    birth.origin = Origin { base, changes };
+    birth.origin.changes = changes;
     Ok(Some(behind))
 }
 

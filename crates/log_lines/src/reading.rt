@@ -77,10 +77,10 @@ fn over_in(bytes: &[u8]) -> Option<(Option<u64>, Option<&[u8]>)>
 
 /// When and where an organism came, and who stood there and so died.
 #[derive(Clone, Copy)]
-pub struct Arrival {
-    pub update: u32,
-    pub cell: u32,
-    pub over: Option<u64>,
+struct Arrival {
+    update: u32,
+    cell: u32,
+    over: Option<u64>,
 }
 
 #[inline(always)]
@@ -185,10 +185,10 @@ fn origin_last(alloc: Global, rest: Option<&[u8]>) -> Result<Option<Origin>, Mem
 
 /// The fields of a birth before its record.
 #[derive(Clone, Copy)]
-pub struct Newborn {
-    pub id: u64,
-    pub parent: u64,
-    pub arrival: Arrival,
+struct Newborn {
+    id: u64,
+    parent: u64,
+    arrival: Arrival,
 }
 
 fn newborn_first<'a>(rest: Option<&'a [u8]>) -> Option<(Newborn, Option<&'a [u8]>)>

@@ -11,8 +11,8 @@ pub returns-in-Some-2-clause-text : goal.returns-in-Some-2-clause-text
 returns-in-Some-2-clause-text c =
     let word = c.split_at.result.0.now in
     let behind = c.in-Some.behind.now in
-    let spelled = (base_law numbers_spell).takes word (written_in c.in-Some-2.value)
-    (sym c.in_ok-value.ensures ∙ ap (option_map written_in) c.in-Some-2.is) in
+    let spelled = (base_law numbers_spell).takes word (written_in c.in-Some-2.written)
+    (sym c.in_ok-written.ensures ∙ ap (option_map written_in) c.in-Some-2.is) in
     piece_front 32 c.args.text.now word behind
     (c.split_at.ensures.pieces ∙ ap (λ (o : Option (Bor (List ℕ))). word
     ∷ pieces_of 32 (option_copied o)) c.in-Some.is)
