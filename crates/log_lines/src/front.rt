@@ -264,6 +264,7 @@ fn birth_front<'a>(
 /// What stands before the first newline of the text. The line of a birth may be read into `birth`, in
 /// place of what that holds, or be given as its text; else, and after an error, `birth` may hold
 /// anything.
+#[inline(always)]
 pub fn read_front<'a>(alloc: Global, birth: &mut Birth, text: &'a [u8]) -> Result<Front<'a>, Memory>
     ensures { IfOk result (λ front. IsFront text.now birth.new front) }
 {
