@@ -1,5 +1,5 @@
 -- How texts that are written, or stop, add up.
-use Rattle.std.proofs.Common.{◌≡◌, Result, Ok, Err, List, ℕ, [], ◌++◌, ap, append-nil, arith, inl, inr, refl, subst}
+use Rattle.std.proofs.Common.{◌≡◌, Result, Ok, Err, IfErr, IfOk, List, ℕ, [], ◌++◌, ap, append-nil, arith, inl, inr, refl, subst}
 use Rattle.avida_port.specs.Ports.{SinkState, GainedPrefix, Puts}
 use Rattle.avida_port.specs.declared.sink.SinkStop.{SinkStop}
 use Rattle.avida_port.specs.declared.sink.SinkStop.TheVariants as stop
@@ -80,6 +80,16 @@ writes_same p = record { ok = p.ok; err = tt; fault = tt; counts = p.counts }
 pub stopped_same : {T U : Type 0} {a b : SinkState} {xs : List ℕ} {e : SinkStop}
     → WritesAll {T = T} a b xs (Err e) → WritesAll {T = U} a b xs (Err e)
 stopped_same p = record { ok = tt; err = p.err; fault = p.fault; counts = p.counts }
+
+-- a text that is written, or stops, beside a value that is kept
+pub kept_writes : {T : Type 0} {a b : SinkState} {xs : List ℕ}
+    {done : Result (Unit {0}) SinkStop} {result : Result T SinkStop}
+    → IfOk result (λ _. done ≡ Ok tt) → IfErr result (λ e. done ≡ Err e)
+    → WritesAll a b xs done → WritesAll a b xs result
+kept_writes {T = T} {a = a} {b = b} {xs = xs} {result = Ok kept} ok err p =
+    writes_same (subst (WritesAll {T = Unit {0}} a b xs) ok p)
+kept_writes {T = T} {a = a} {b = b} {xs = xs} {result = Err e} ok err p =
+    stopped_same (subst (WritesAll {T = Unit {0}} a b xs) err p)
 
 -- memory ran out after a text was written
 pub wanting_after : {T U : Type 0} {a b : SinkState} {xs : List ℕ} {t : T}
