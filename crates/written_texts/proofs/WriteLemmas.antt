@@ -1,5 +1,5 @@
 -- How texts that are written, or stop, add up.
-use Rattle.std.proofs.Common.{◌≡◌, Result, Ok, Err, IfErr, IfOk, List, ℕ, [], ◌++◌, ap, append-nil, arith, inl, inr, refl, subst}
+use Rattle.std.proofs.Common.{◌≡◌, Result, Ok, Err, IfErr, IfOk, List, ℕ, [], ◌++◌, ap, append-nil, arith, inl, inr, refl, subst, sym}
 use Rattle.avida_port.specs.Ports.{SinkState, GainedPrefix, Puts}
 use Rattle.avida_port.specs.declared.sink.SinkStop.{SinkStop}
 use Rattle.avida_port.specs.declared.sink.SinkStop.TheVariants as stop
@@ -90,6 +90,12 @@ kept_writes {T = T} {a = a} {b = b} {xs = xs} {result = Ok kept} ok err p =
     writes_same (subst (WritesAll {T = Unit {0}} a b xs) ok p)
 kept_writes {T = T} {a = a} {b = b} {xs = xs} {result = Err e} ok err p =
     stopped_same (subst (WritesAll {T = Unit {0}} a b xs) err p)
+
+-- what holds of a value holds of it once it is kept
+pub kept_holds : {T E : Type 0} (P : T → Type 0) (value : T) (result : Result T E)
+    → IfOk result (λ kept. kept ≡ value) → P value → IfOk result P
+kept_holds P value (Ok kept) same holds = subst P (sym same) holds
+kept_holds P value (Err e) same holds = tt
 
 -- memory ran out after a text was written
 pub wanting_after : {T U : Type 0} {a b : SinkState} {xs : List ℕ} {t : T}
