@@ -1,6 +1,6 @@
 -- The newborns of an update, each with its placing.
 use Rattle.std.proofs.Common.{◌≡◌, ◌∙◌, ap, sym, List, [], ◌∷◌, ◌++◌, append-nil, append_assoc, arith, fold, length, map}
-use Rattle.world_core.proofs.Prelude.{zip, into_iter_items, into_iter_len, into_iter_steps, YieldsList, length-map, map_push, firsts-zip, Placing, genome_in, Link, ConfigValues, Scene, with_newcomer, Delivery, with_newborn, genomes_ever, deliveries_in, delivery_at, Newborns}
+use Rattle.world_core.proofs.Prelude.{zip, into_iter_items, into_iter_len, into_iter_steps, YieldsList, length-map, map_push, firsts-zip, Placing, genome_in, Link, ConfigValues, Scene, with_newcomer, Delivery, with_newborn, genomes_ever, deliveries_in, delivery_at, Lived}
 use Rattle.std.proofs.lemmas.Iterator.Splits.{YieldsList-from_shown_while}
 use Rattle.world_core.proofs.BirthOrderLemmas.{map-both}
 
@@ -33,14 +33,14 @@ placed-genomes config scene (turn ∷ turns) =
     ∙ rw (newborn-genomes config scene turn, append_assoc)
 
 -- the genomes of newborns beside as many placings
-pub genomes-beside : (births : Newborns) (placings : List Placing)
-    → length placings ≡ length births.delivered.items
+pub genomes-beside : (lived : Lived) (placings : List Placing)
+    → length placings ≡ length lived.born.items
     → map (λ (turn : Delivery × Placing). turn.0.newborn.genome)
-    (zip (deliveries_in births) placings) ≡ map genome_in births.delivered.items
-genomes-beside births placings long =
+    (zip (deliveries_in lived) placings) ≡ map genome_in lived.born.items
+genomes-beside lived placings long =
     sym (map-both (λ (turn : Delivery × Placing). turn.0) (λ d. d.newborn.genome)
-    (zip (deliveries_in births) placings))
+    (zip (deliveries_in lived) placings))
     ∙ ap (map (λ d. d.newborn.genome))
-    (firsts-zip (deliveries_in births) placings
-    (long ∙ sym (length-map births.delivered.items (delivery_at births.ids.items))))
-    ∙ map-both (delivery_at births.ids.items) (λ d. d.newborn.genome) births.delivered.items
+    (firsts-zip (deliveries_in lived) placings
+    (long ∙ sym (length-map lived.born.items (delivery_at lived.ids.items))))
+    ∙ map-both (delivery_at lived.ids.items) (λ d. d.newborn.genome) lived.born.items

@@ -1,6 +1,6 @@
 -- Those that died of age leave their cells one after another, or all at once.
 use Rattle.std.proofs.Common.{◌≡◌, ◌∙◌, refl, sym, ap, ℕ, ◌+◌, Bool, cond, List, [], ◌∷◌, ◌++◌, append-nil, append_assoc, length, map, get_or, filter, Option, Some, None, arith, inl, inr}
-use Rattle.world_core.proofs.Prelude.{filter_map, range_with_len, scan, option_map, option_to_list, cases_Bool, get_or_at, length_push, map-append, set_at, Link, Line, Death, CellLife, no_life, death_line, death_lines, Scene, with_death, with_deaths, Occupant, id_of, after_burials, after_lives, deaths_of, departed_from, departure, departure_line, staying_in, Departure}
+use Rattle.world_core.proofs.Prelude.{filter_map, range_with_len, scan, option_map, option_to_list, cases_Bool, get_or_at, length_push, map-append, set_at, Link, Line, Death, CellLife, no_life, death_line, death_lines, Scene, with_death, with_deaths, Occupant, id_of, after_burials, after_lives, deaths_of, departed_from, departure_line, staying_in}
 
 -- the cells whose organism died, which go on from this one
 abbrev deaths_at : ℕ → List CellLife → List ℕ
@@ -44,8 +44,8 @@ module _ (update : ℕ) (everyone : List Link) where
   occupants lives = map (λ l. l.occupant) lives
 
   -- the ids of some dead
-  abbrev ids_in : List Departure → List ℕ
-  ids_in dead = map (λ one. one.id) dead
+  abbrev ids_in : List (ℕ × ℕ) → List ℕ
+  ids_in dead = map (λ one. one.1) dead
 
   -- one cell becomes empty
   one-death : (before rest : List (Option Occupant)) (slot : Option Occupant) (gone : List ℕ)
@@ -63,7 +63,7 @@ module _ (update : ℕ) (everyone : List Link) where
 
   -- the id of one who died
   ids-in-one : (first : ℕ) (slot : Option Occupant)
-      → ids_in (option_to_list (option_map (λ o. departure first o.id) slot))
+      → ids_in (option_to_list (option_map (λ o. (first, o.id)) slot))
       ≡ option_to_list (id_of slot)
   ids-in-one first None = refl
   ids-in-one first (Some o) = refl
@@ -72,7 +72,7 @@ module _ (update : ℕ) (everyone : List Link) where
   lines-in-one : (first : ℕ) (slot : Option Occupant)
       → filter_map (λ line. line) (option_map (λ id. Death id update first) (id_of slot) ∷ [])
       ≡ map (departure_line update)
-      (option_to_list (option_map (λ o. departure first o.id) slot))
+      (option_to_list (option_map (λ o. (first, o.id)) slot))
   lines-in-one first None = refl
   lines-in-one first (Some o) = refl
 
@@ -83,7 +83,7 @@ module _ (update : ℕ) (everyone : List Link) where
       ≡ scene_with (before ++ map staying_in lives) (gone ++ ids_in (departed_from first lives))
   burials-from before [] gone first long = ap (scene_with (before ++ [])) (sym (append-nil gone))
   burials-from before (l ∷ lives) gone first long =
-      let dead : List Departure = option_to_list (option_map (λ o. departure first o.id) l.occupant) in
+      let dead : List (ℕ × ℕ) = option_to_list (option_map (λ o. (first, o.id)) l.occupant) in
       let more_gone : List ℕ = option_to_list (id_of l.occupant) in
       let rest = departed_from (first + 1) lives in
       let later = λ (slot : Option Occupant) (more : List ℕ).
@@ -98,7 +98,7 @@ module _ (update : ℕ) (everyone : List Link) where
             (one-death before (occupants lives) l.occupant gone first long)
             ∙ later None (gone ++ more_gone)
             ∙ rw (
-              map-append (λ (one : Departure). one.id) dead rest,
+              map-append (λ (one : ℕ × ℕ). one.1) dead rest,
               ids-in-one first l.occupant,
               append_assoc gone more_gone (ids_in rest),
             ))
@@ -113,7 +113,7 @@ module _ (update : ℕ) (everyone : List Link) where
       (deaths_at first lives) ≡ map (departure_line update) (departed_from first lives)
   lines-from before [] gone first long = refl
   lines-from before (l ∷ lives) gone first long =
-      let dead : List Departure = option_to_list (option_map (λ o. departure first o.id) l.occupant) in
+      let dead : List (ℕ × ℕ) = option_to_list (option_map (λ o. (first, o.id)) l.occupant) in
       let later = λ (slot : Option Occupant) (more : List ℕ).
       lines-from (before ++ slot ∷ []) lives more (first + 1)
       (omega (arith, length_push before slot, long)) in

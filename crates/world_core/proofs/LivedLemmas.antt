@@ -1,6 +1,6 @@
 -- What the shards leave is what a world's lives leave.
 use Rattle.std.proofs.Common.{◌≡◌, ◌∙◌, refl, sym, ap, ℕ, ◌+◌, ◌<◌, ◌≤◌, ◌^◌, Bool, true, false, cond, List, [], ◌∷◌, length, map, get_or, Option, Some, None, arith}
-use Rattle.world_core.proofs.Prelude.{All, range_with_len, flat_map, enumerate_from, length-map, All-cons, All-head, All-map, All-nil, All-tail, length-map-range_with_len, IsYoung, RoundNumbers, births_from, dead_in, deaths_from, left_in, newborns_in, part_from, shard_life_at, shard_life_of, shard_lives_of, standing_in, birth_of, Delivered, Standing, slices_of, OrganismState, OrganismLife, ConfigValues, CellLife, life_at, lives_of, merit_in, no_life, slice_at, slices_at, with_id, organism_in, births_in, births_of, Occupant, AreBounded, IsBoundedIn, occupants_of, merit_or_zero, occupant_genome, delivery_at, departed_from, departed_in, departure_by, round_of, staying_in, Departure}
+use Rattle.world_core.proofs.Prelude.{All, range_with_len, flat_map, enumerate_from, length-map, All-cons, All-head, All-map, All-nil, All-tail, length-map-range_with_len, IsYoung, RoundNumbers, births_from, dead_in, deaths_from, left_in, newborns_in, part_from, shard_life_at, shard_life_of, shard_lives_of, standing_in, birth_of, Delivered, Standing, slices_of, OrganismState, OrganismLife, ConfigValues, CellLife, life_at, lives_of, merit_in, no_life, slice_at, slices_at, with_id, organism_in, births_in, births_of, Occupant, AreBounded, IsBoundedIn, occupants_of, merit_or_zero, occupant_genome, delivery_at, departed_from, departed_in, departure_by, round_of, staying_in}
 use Rattle.std.proofs.Math.ListN.{get_or-map}
 use Rattle.world_core.proofs.BirthOrderLemmas.{map-both}
 use Rattle.world_core.proofs.CellTableLemmas.{merits-of, occupants_of-at, occupants_of-length, organism-with}
@@ -126,7 +126,7 @@ module _ {config : ConfigValues} {update : ℕ} {cells : List (Option Occupant)}
       ∙ told-are newborns_in births_in (delivery_by ids) (λ cell. (lives-as cell).births)
 
   -- the dead
-  pub lived-dead : (died : List ℕ) (dead : List Departure) → died ≡ deaths_from 0 shard_lives
+  pub lived-dead : (died : List ℕ) (dead : List (ℕ × ℕ)) → died ≡ deaths_from 0 shard_lives
       → dead ≡ map (departure_by ids) died → dead ≡ departed_from 0 lives
   lived-dead died dead are named =
       named ∙ ap (map (departure_by ids)) are

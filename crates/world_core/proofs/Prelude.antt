@@ -56,14 +56,13 @@ pub use Rattle.world_config.specs.Events.{EventValue, event_fits, event_value, e
 pub use Rattle.world_config.specs.KeyTable.{Frame, frame_of}
 pub use Rattle.world_config.specs.declared.event.Event.{Event}
 pub use Rattle.world_core.specs.Bounds.{AreBounded, AreBoundedLives, AreDeliveries, CanStand, IsBoundedIn, IsDelivery}
-pub use Rattle.world_core.specs.Endings.{CanHappen, IsNext, deliveries_in, delivery_at, delivery_from, departed_from, departed_in, departure, departure_by, departure_line, last_lines, round_of, staying_in, with_births, with_departed}
+pub use Rattle.world_core.specs.Endings.{CanHappen, IsNext, deliveries_in, delivery_at, delivery_from, departed_from, departed_in, departure_by, departure_line, departures_in, last_lines, round_of, staying_in, with_births, with_departed}
 pub use Rattle.world_core.specs.LateTrees.{EveryoneValue, IsLateTreeOf, IsLeftBehind}
 pub use Rattle.world_core.specs.Population.{AreCountedIn, AreDifferent, AreKeptBeside, AreSummedIn, CanCountChange, CountsChange, IsKeptOf, PopulationValue, is_credited, is_genome, merit_or_zero, occupant_genome, occupant_genomes, occupants_of}
 pub use Rattle.world_core.specs.Prelude.{All, CanGoOn, CanRemove, CanRenew, CellLife, ConfigValues, Count, Counts, Death, Delivered, Delivery, GenotypeCount, HasEachOnce, HasOneFewer, IsNonDecreasing, IsNumbered, IsPermutation, IsPrefix, IsTreeOf, IsYoung, Letter, Line, Link, LiveOn, MayStandThere, Occupant, OrganismState, RoundNumbers, SavedState, Scene, SeatValue, Stats, TreeValue, WhatValue, World, after_what, birth_line, birth_lines, birth_of, births_from, cells_from, clear, cleared_line, count_under, deaths_from, delivery_of, enumerate_from, event_lines, flat_map, forgotten, founder_link, genome_in, genotype_at, head_at, head_values, id_at, id_of, ids_of, inject, left_in, letters, line_text, lines_text, living_of, merit_in, newcomers_of, next_id, next_state, next_text, option_to_list, organism_in, organism_of_image, own_calls_of, part_from, placed_in, placing_round_at, rate, round_numbers, scene_after, scene_stats, standing_in, state_of_lines, state_of_world, sum_by, values_in, values_of, what_lines, what_value, with_deaths, with_genome, with_id, with_placed, world_of, world_of_state, zip}
 pub use Rattle.world_core.specs.Scenes.{Grows, HasNumber, IsResidentIn, IsState, IsWorldOf, KeepsPast, SceneValue, TakesIn, WorldValue, genomes_ever, scene_in, state_in, with_occupant, world_in}
 pub use Rattle.world_core.specs.Sharding.{FollowShares, IsJoined, LieSideBySide, PartCells, ShareSeat, load_before, load_of, seat_from, seat_without, share_before}
-pub use Rattle.world_core.specs.declared.ids.Newborns.{Newborns}
-pub use Rattle.world_core.specs.declared.ids.Departure.{Departure}
+pub use Rattle.world_core.specs.declared.lived.Lived.{Lived}
 pub use Rattle.world_laws.proofs.ListLemmas.{map-replicate}
 pub use Rattle.world_laws.specs.Turnover.{IsStanding}
 pub use Rattle.world_rules.specs.Lives.{life_at, no_life, slice_at}

@@ -1,6 +1,6 @@
 -- The lives of a world's cells are those of its shards, with the ids of the cells.
 use Rattle.std.proofs.Common.{◌≡◌, ◌∙◌, refl, ℕ, zero, suc, ◌+◌, Bool, true, false, cond, List, [], ◌∷◌, ◌++◌, length, map, get_or, Option, Some, None, arith}
-use Rattle.world_core.proofs.Prelude.{range_with_len, flat_map, enumerate_from, map-append, born_in, dead_in, left_in, newborns_in, shard_life_of, beginning, OrganismLife, ended_life, life_by, NewbornValue, OrganismState, life, Run, draw, ConfigValues, CellLife, life_of, with_id, settings_at, Delivery, births_in, delivery_of, occupants_of, departed_in, departure, departure_by, round_of, staying_in}
+use Rattle.world_core.proofs.Prelude.{range_with_len, flat_map, enumerate_from, map-append, born_in, dead_in, left_in, newborns_in, shard_life_of, beginning, OrganismLife, ended_life, life_by, NewbornValue, OrganismState, life, Run, draw, ConfigValues, CellLife, life_of, with_id, settings_at, Delivery, births_in, delivery_of, occupants_of, departed_in, departure_by, round_of, staying_in}
 use Rattle.world_core.proofs.BirthOrderLemmas.{map-both}
 
 -- a newborn of a cell, with the id of the cell
@@ -38,7 +38,7 @@ life-as config update cell steps ids (Some o) =
     stays false left = refl
 
     dead : (died : Bool)
-        → map (departure_by ids) (cond died (cell ∷ []) []) ≡ cond died (departure cell id ∷ []) []
+        → map (departure_by ids) (cond died (cell ∷ []) []) ≡ cond died ((cell, id) ∷ []) []
     dead true = refl
     dead false = refl
 

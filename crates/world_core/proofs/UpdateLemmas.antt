@@ -1,6 +1,6 @@
 -- The phases of an update lead to its scene, and their texts join.
 use Rattle.std.proofs.Common.{◌≡◌, ◌∙◌, refl, ℕ, ◌+◌, List, [], ◌∷◌, ◌++◌, Option, length, map, append_assoc, append-nil, arith, ap}
-use Rattle.world_core.proofs.Prelude.{length-map, length-map-range_with_len, lines_text, Line, Count, Stats, line_text, ConfigValues, Occupant, World, Scene, CellLife, life_at, lives_of, next_stats, scene_stats, birth_lines, event_lines, lines_of_lives, update_lines, Delivery, after_lives, lives_after, births_of, after_births, after_burials, after_events, last_scene, next_scene, scene_of_lives, departed_from, departure_line, staying_in, Departure}
+use Rattle.world_core.proofs.Prelude.{length-map, length-map-range_with_len, lines_text, Line, Count, Stats, line_text, ConfigValues, Occupant, World, Scene, CellLife, life_at, lives_of, next_stats, scene_stats, birth_lines, event_lines, lines_of_lives, update_lines, Delivery, after_lives, lives_after, births_of, after_births, after_burials, after_events, last_scene, next_scene, scene_of_lives, departed_from, departure_line, staying_in}
 use Rattle.std.proofs.lemmas.Grind.{flat_map-append}
 use Rattle.world_core.proofs.BurialLemmas.{burial-lines-are, burials-are}
 use Rattle.world_rules.proofs.Updates.{update_next}
@@ -19,7 +19,7 @@ length_lived config update cells =
     length-map _ _ ∙ length-map-range_with_len (life_at config update cells) 0 (length cells)
 
 -- the scenes of an update's phases, from the lives on
-pub record Phases (config : ConfigValues) (w : World) (dead : List Departure)
+pub record Phases (config : ConfigValues) (w : World) (dead : List (ℕ × ℕ))
     (births : List Delivery) (s0 s1 s2 s3 : Scene) (stats : Stats) : Type 0 where
   pub lived : s0 ≡ record {
     update = w.update + 1;
@@ -29,12 +29,12 @@ pub record Phases (config : ConfigValues) (w : World) (dead : List Departure)
   }
   pub dead_are : dead ≡ departed_from 0 (lives_after config w)
   pub births_are : births ≡ births_of (lives_after config w)
-  pub buried : s1 ≡ record s0 { gone = s0.gone ++ map (λ one. one.id) dead }
+  pub buried : s1 ≡ record s0 { gone = s0.gone ++ map (λ one. one.1) dead }
   pub placed : s2 ≡ after_births config s1 births
   pub happened : s3 ≡ after_events config s2
   pub counted : stats ≡ scene_stats s3 (length births)
 
-module _ (config : ConfigValues) (w : World) (dead : List Departure) (births : List Delivery)
+module _ (config : ConfigValues) (w : World) (dead : List (ℕ × ℕ)) (births : List Delivery)
     (s0 s1 s2 s3 : Scene) (stats : Stats) (p : Phases config w dead births s0 s1 s2 s3 stats) where
   -- the lives
   abbrev lives : List CellLife

@@ -7,7 +7,7 @@ ghost use Rattle.world_core.specs.Scenes.{HasNumber, genomes_ever, scene_in};
 ghost use Rattle.world_core.specs.Endings.{deliveries_in, delivery_from};
 
 use crate::cell_table::CellTable;
-use crate::ids::{Newborns, id_in};
+use crate::lived::{Lived, id_in};
 use crate::scene::Scene;
 use crate::settings::{placing_round_at, torus_of};
 use avida_port::Memory;
@@ -27,30 +27,30 @@ pub(crate) fn place_births(
     alloc: Global,
     config: &Config,
     scene: &mut Scene,
-    births: Newborns,
+    lived: Lived,
     text: &mut Vec<u8>,
 ) -> Result<(), Memory>
     requires size { length scene.old.cells ≡ config.now.width * config.now.height }
     requires births { AreDeliveries (values_of config.now) (length scene.old.cells)
-        (deliveries_in births) }
-    requires numbers { All (HasNumber scene.old.bank) births.delivered.items }
+        (deliveries_in lived) }
+    requires numbers { All (HasNumber scene.old.bank) lived.born.items }
     requires few { length scene.old.everyone ≤ 2 ^ 62 + 2 ^ 60 }
     ensures scene { OnOk result (scene_in scene.new ≡ after_births (values_of config.now)
-        (scene_in scene.old) (deliveries_in births)) }
+        (scene_in scene.old) (deliveries_in lived)) }
     ensures text { OnOk result (text.new.items
         ≡ text.old.items ++ lines_text (birth_lines (values_of config.now)
-        (scene_in scene.old) (deliveries_in births))) }
+        (scene_in scene.old) (deliveries_in lived))) }
     ensures bank { OnOk result (scene.new.bank ≡ scene.old.bank) }
     ensures genomes { OnOk result (genomes_ever scene.new.everyone
-        ≡ genomes_ever scene.old.everyone ++ map genome_in births.delivered.items) }
+        ≡ genomes_ever scene.old.everyone ++ map genome_in lived.born.items) }
     ensures size { OnOk result (length scene.new.cells ≡ length scene.old.cells) }
     ensures everyone { OnOk result
-        (length scene.new.everyone ≡ length scene.old.everyone + length births.delivered.items) }
+        (length scene.new.everyone ≡ length scene.old.everyone + length lived.born.items) }
     ensures first { OnOk result (scene.new.first ≡ scene.old.first) }
 {
-    let placings = placings_of(alloc, config, scene, &births)?;
-    let Newborns { delivered, ids } = births;
-    for (newborn, placing) in delivered.into_iter().zip(placings.into_vec()) {
+    let placings = placings_of(alloc, config, scene, &lived)?;
+    let Lived { born, ids, .. } = lived;
+    for (newborn, placing) in born.into_iter().zip(placings.into_vec()) {
         let parent = id_in(&ids, newborn.cell);
         place_newborn(alloc, config, scene, parent, newborn, &placing, text)?;
     }
@@ -63,20 +63,20 @@ fn placings_of(
     alloc: Global,
     config: &Config,
     scene: &Scene,
-    births: &Newborns,
+    lived: &Lived,
 ) -> Result<Placings, Memory>
     requires size { length scene.now.cells ≡ config.now.width * config.now.height }
     requires births { AreDeliveries (values_of config.now) (length scene.now.cells)
-        (deliveries_in births.now) }
+        (deliveries_in lived.now) }
     requires few { length scene.now.everyone ≤ 2 ^ 62 + 2 ^ 60 }
     ensures placings { IfOk result (λ placings. placings
-        ≡ placings_of (values_of config.now) (scene_in scene.now) (deliveries_in births.now)) }
-    ensures count { IfOk result (λ placings. length placings ≡ length births.now.delivered.items) }
+        ≡ placings_of (values_of config.now) (scene_in scene.now) (deliveries_in lived.now)) }
+    ensures count { IfOk result (λ placings. length placings ≡ length lived.now.born.items) }
     ensures in_world { IfOk result (λ placings.
         All (λ placing. placing.cell < length scene.now.cells) placings) }
 {
     let torus = torus_of(config);
-    let parents = parents_of(alloc, &births.delivered)?;
+    let parents = parents_of(alloc, &lived.born)?;
     let mut board = board_of(alloc, scene.cells.cells())?;
     let round = placing_round_at(config, scene.update, scene.next_id());
     place(alloc, &torus, &parents, &mut board, &round)

@@ -1,16 +1,17 @@
 // Who stands in each cell, and what is counted of them.
-ghost use Rattle.std.specs.Prelude.{◌≡◌, ◌+◌, [], ◌<◌, ◌≤◌, ◌^◌, None, Some, IfOk, OnErr, OnOk, length, map, option_map, replicate, slice_get, slice_index_or, slice_set};
+ghost use Rattle.std.specs.Prelude.{◌≡◌, ◌+◌, [], ◌<◌, ◌≤◌, ◌^◌, None, Some, IfOk, OnErr, OnOk, length, map, option_map, replicate, slice_get, slice_index_or, slice_set, sum, ℕ};
 ghost use Rattle.world_core.specs.Prelude.{dominant_value, letters, with_genome, values_of, lives_of, dominant_of, organism_in, stats_in, births_of, LiveOn};
 ghost use Rattle.world_core.specs.Bounds.{AreBounded, AreBoundedLives};
 ghost use Rattle.world_core.specs.Scenes.{TakesIn};
-ghost use Rattle.world_core.specs.Endings.{deliveries_in, departed_from, staying_in};
+ghost use Rattle.world_core.specs.Endings.{deliveries_in, departed_from, departures_in, staying_in};
 ghost use Rattle.world_core.specs.Population.{occupant_genome};
+ghost use Rattle.world_rules.specs.Lives.{slices_at};
 
 use crate::cell_table::CellTable;
 use crate::genotypes::Genotypes;
-use crate::ids::{Departure, Newborns, with_ids};
+use crate::lived::{Lived, copy_of};
 use crate::lives::{count_change, round_at, slices_by};
-use crate::sharding::{Ended, live_in_shards};
+use crate::sharding::{Ended, both, live_in_shards};
 use avida_port::{Gate, Memory};
 use cell_shards::BoxedOrganism;
 use census::laws::dominance_knows_no_order;
@@ -21,7 +22,7 @@ use genotype_bank::laws::genotypes_are_what_was_interned;
 use instruction_set::laws::one_index;
 use log_lines::Stats;
 use random_streams::CELLS;
-use std::alloc::Global;
+use std::alloc::{AllocError, Global};
 use std::marker::Model;
 use std::sync::Wait;
 use std::thread::Threads;
@@ -151,6 +152,18 @@ impl Population {
         Ok(())
     }
 
+    /// The steps of each cell in the next update.
+    fn slices(&self, alloc: Global, config: &Config) -> Result<Vec<u64>, AllocError>
+        ensures slices { IfOk result
+            (λ slices. slices.items ≡ slices_at (values_of config.now) self.now.cells) }
+        ensures few { IfOk result
+            (λ slices. (cell : ℕ) → slice_index_or slices.items cell 0 < 2 ^ 27) }
+        ensures total { IfOk result (λ slices. sum slices.items ≤ 65536000) }
+        ensures length { IfOk result (λ slices. length slices.items ≡ length self.now.cells) }
+    {
+        slices_by(alloc, config, &self.cells.standings)
+    }
+
     /// The lives of all cells in the update after this one, by as many threads as there are
     /// workers. The dead leave their cells, and the genomes of the newborns are interned. The
     /// calling thread does `meanwhile` once the others have begun. After `Memory` no population is
@@ -164,7 +177,7 @@ impl Population {
         workers: u32,
         gate: &G,
         meanwhile: F,
-    ) -> Result<(Population, Newborns, Vec<Departure>, T), Memory>
+    ) -> Result<(Population, Lived, T), Memory>
         requires some { 1 ≤ length self.cells }
         requires update { update < GREATEST_UPDATES }
         requires workers { (1 ≤ workers) × (workers ≤ 64) }
@@ -176,15 +189,15 @@ impl Population {
             ≡ map staying_in (lives_of (values_of config.now) (update + 1) self.cells)) }
         ensures births { IfOk result (λ next. deliveries_in next.1
             ≡ births_of (lives_of (values_of config.now) (update + 1) self.cells)) }
-        ensures dead { IfOk result (λ next. next.2.items
+        ensures dead { IfOk result (λ next. departures_in next.1
             ≡ departed_from 0 (lives_of (values_of config.now) (update + 1) self.cells)) }
-        ensures bank { IfOk result (λ next. TakesIn self.bank next.0.bank
-            next.1.delivered.items) }
+        ensures bank { IfOk result (λ next. TakesIn self.bank next.0.bank next.1.born.items) }
         ensures bounds { IfOk result (λ next. AreBoundedLives (values_of config.now) (update + 1)
             next.0.cells (deliveries_in next.1)) }
-        ensures meanwhile { IfOk result (λ next. F.post meanwhile next.3) }
+        ensures meanwhile { IfOk result (λ next. F.post meanwhile next.2) }
     {
         one_index();
+        let slices = self.slices(alloc, config)?;
         let Population {
             cells,
             keys,
@@ -196,18 +209,18 @@ impl Population {
             ids,
             standings: before,
         } = cells;
-        let slices = slices_by(alloc, config, &before)?;
+        let ids_before = copy_of(alloc, &ids);
         let round = round_at(config, update + 1);
-        let (genotypes, ended, outcome) = live_in_shards(
+        let ended = live_in_shards(
             rt, alloc, known, organisms, slices, &round, workers, gate, meanwhile,
-        )?;
+        );
+        let ((genotypes, ended, outcome), ids_before) = both(ended, ids_before)?;
         let Ended {
             organisms: left,
             standings,
             births,
             dead,
         } = ended;
-        let (births, dead) = with_ids(alloc, &ids, births, dead)?;
         for cell in 0..left.len() {
             count_change(&mut census, keys[cell], before[cell], standings[cell]);
         }
@@ -221,7 +234,12 @@ impl Population {
             genotypes,
             census,
         };
-        Ok((population, births, dead, outcome))
+        let lived = Lived {
+            born: births,
+            died: dead,
+            ids: ids_before,
+        };
+        Ok((population, lived, outcome))
     }
 
     /// What is counted after an update of so many births and deaths.

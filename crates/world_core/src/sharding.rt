@@ -284,7 +284,7 @@ fn appended<T: Drop>(front: Items<T>, back: Items<T>) -> Result<Items<T>, Memory
 }
 
 /// Two values, if there was memory for both.
-fn both<A: Drop, B: Drop>(
+pub(crate) fn both<A: Drop, B: Drop>(
     one: Result<A, Memory>,
     other: Result<B, Memory>,
 ) -> Result<(A, B), Memory>

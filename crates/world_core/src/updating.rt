@@ -2,13 +2,14 @@
 ghost use Rattle.std.specs.Prelude.{◌≡◌, ◌+◌, ◌++◌, ◌*◌, ◌<◌, ◌≤◌, ◌^◌, [], All, IfOk, OnOk, length, map};
 ghost use Rattle.world_core.specs.Prelude.{lines_text, Count, line_text, values_of, LiveOn, lives_of, update_lines, births_of, world_of};
 ghost use Rattle.world_core.specs.Bounds.{AreDeliveries};
-ghost use Rattle.world_core.specs.Endings.{Ends, IsNext, last_lines, deliveries_in, departed_from, staying_in};
+ghost use Rattle.world_core.specs.Endings.{Ends, IsNext, last_lines, deliveries_in, departed_from, departures_in, staying_in};
 ghost use Rattle.world_core.specs.Scenes.{HasNumber, TakesIn, scene_in};
 
 use crate::births::place_births;
 use crate::burials::bury;
 use crate::events::apply_events;
-use crate::ids::{Departure, Newborns};
+use crate::lived::Lived;
+use crate::pairs::beside;
 use crate::scene::Scene;
 use avida_port::{Gate, Memory};
 use log_lines::{LogLine, Stats, write_line};
@@ -45,11 +46,12 @@ pub(crate) fn next_scene<
         ≡ lines_text (update_lines (values_of config.now) (world_of (scene_in scene)))) }
     ensures meanwhile { IfOk result (λ next. F.post meanwhile next.3) }
 {
-    let (mut scene, births, dead, outcome) = scene_of_lives(
+    let (mut scene, lived, outcome) = scene_of_lives(
         rt, alloc, config, scene, workers, gate, meanwhile,
     )?;
     let mut text = Vec::new(alloc);
-    let stats = end_update(rt, alloc, config, &mut scene, births, &dead, &mut text)?;
+    let stats = end_update(rt, alloc, config, &mut scene, lived, &mut text);
+    let ((scene, text, outcome), stats) = beside((scene, text, outcome), stats)?;
     Ok((scene, stats, text, outcome))
 }
 
@@ -60,24 +62,22 @@ fn end_update<R: Wait>(
     alloc: Global,
     config: &Config,
     scene: &mut Scene,
-    births: Newborns,
-    dead: &[Departure],
+    lived: Lived,
     text: &mut Vec<u8>,
 ) -> Result<Stats, Memory>
     requires size { length scene.old.cells ≡ config.now.width * config.now.height }
     requires few { length scene.old.everyone ≤ 2 ^ 62 + 2 ^ 60 }
     requires births { AreDeliveries (values_of config.now) (length scene.old.cells)
-        (deliveries_in births) }
-    requires numbers { All (HasNumber scene.old.bank) births.delivered.items }
-    ensures ends { IfOk result (Ends (values_of config.now) dead.now births
-        scene.old scene.new) }
+        (deliveries_in lived) }
+    requires numbers { All (HasNumber scene.old.bank) lived.born.items }
+    ensures ends { IfOk result (Ends (values_of config.now) lived scene.old scene.new) }
     ensures text { IfOk result (λ stats. text.new.items ≡ text.old.items ++ lines_text
-        (last_lines (values_of config.now) (scene_in scene.old) dead.now
-        (deliveries_in births) stats)) }
+        (last_lines (values_of config.now) (scene_in scene.old) (departures_in lived)
+        (deliveries_in lived) stats)) }
 {
-    let count = births.delivered.len() as u64;
-    bury(scene, dead, text)?;
-    place_births(alloc, config, scene, births, text)?;
+    let count = lived.born.len() as u64;
+    bury(scene, &lived, text)?;
+    place_births(alloc, config, scene, lived, text)?;
     apply_events(rt, alloc, config, scene, text)?;
     let stats = scene.stats(count);
     tell_count(stats, text)?;
@@ -100,7 +100,7 @@ fn scene_of_lives<R: Threads + Wait + Sync, G: Gate + Sync, T: Drop, F: FnOnce()
     workers: u32,
     gate: &G,
     meanwhile: F,
-) -> Result<(Scene, Newborns, Vec<Departure>, T), Memory>
+) -> Result<(Scene, Lived, T), Memory>
     requires size { length scene.cells ≡ config.now.width * config.now.height }
     requires update { scene.update < GREATEST_UPDATES }
     requires workers { (1 ≤ workers) × (workers ≤ 64) }
@@ -116,13 +116,12 @@ fn scene_of_lives<R: Threads + Wait + Sync, G: Gate + Sync, T: Drop, F: FnOnce()
         ≡ births_of (lives_of (values_of config.now) (scene.update + 1) scene.cells)) }
     ensures deliveries { IfOk result (λ next. AreDeliveries (values_of config.now)
         (length scene.cells) (deliveries_in next.1)) }
-    ensures dead { IfOk result (λ next. next.2.items
+    ensures dead { IfOk result (λ next. departures_in next.1
         ≡ departed_from 0 (lives_of (values_of config.now) (scene.update + 1) scene.cells)) }
-    ensures bank { IfOk result (λ next. TakesIn scene.bank next.0.bank
-        next.1.delivered.items) }
+    ensures bank { IfOk result (λ next. TakesIn scene.bank next.0.bank next.1.born.items) }
     ensures size { IfOk result (λ next. length next.0.cells ≡ length scene.cells) }
     ensures first { IfOk result (λ next. next.0.first ≡ scene.first) }
-    ensures meanwhile { IfOk result (λ next. F.post meanwhile next.3) }
+    ensures meanwhile { IfOk result (λ next. F.post meanwhile next.2) }
 {
     let Scene {
         update,
@@ -130,7 +129,7 @@ fn scene_of_lives<R: Threads + Wait + Sync, G: Gate + Sync, T: Drop, F: FnOnce()
         everyone,
         mut gone,
     } = scene;
-    let (cells, births, dead, outcome) = cells.live(
+    let (cells, lived, outcome) = cells.live(
         rt, alloc, config, update, workers, gate, meanwhile,
     )?;
     gone.clear();
@@ -140,5 +139,5 @@ fn scene_of_lives<R: Threads + Wait + Sync, G: Gate + Sync, T: Drop, F: FnOnce()
         everyone,
         gone,
     };
-    Ok((scene, births, dead, outcome))
+    Ok((scene, lived, outcome))
 }

@@ -11,24 +11,24 @@ use Rattle.world_core.proofs.births.place_births.Goals as goal
 -- the placings are those of the births
 found : (c : After-into_iter-newborn-iterator) → c.into_vec.result.items
     ≡ placings_of (values_of c.args.config.now) (scene_in c.args.scene.now)
-    (deliveries_in c.args.births)
+    (deliveries_in c.args.lived)
 found c = c.into_vec.ensures ∙ c.in_ok-placings.ensures.placings
 
 -- the loop goes over each newborn with its placing
 road : (c : After-into_iter-newborn-iterator)
     → YieldsList {B = Delivery × Placing} (zips into_iter_steps into_iter_steps)
-    (λ turn. (delivery_at c.args.births.ids.items turn.0, turn.1))
+    (λ turn. (delivery_at c.args.lived.ids.items turn.0, turn.1))
     c.into_iter-newborn-iterator.result
     (turns_of (values_of c.args.config.now) (scene_in c.args.scene.now)
-    (deliveries_in c.args.births))
+    (deliveries_in c.args.lived))
 road c =
-    let births = c.args.births.delivered.items in
+    let births = c.args.lived.born.items in
     let placings = placings_of (values_of c.args.config.now) (scene_in c.args.scene.now)
-    (deliveries_in c.args.births) in
+    (deliveries_in c.args.lived) in
     let same = c.into_iter-newborn-iterator.ensures.into_iter_gives in
     let zipped = c.zip-newborn-items.ensures in
     YieldsList-from_zip {s = c.into_iter-newborn-iterator.result}
-    (yields-made (delivery_at c.args.births.ids.items) births
+    (yields-made (delivery_at c.args.lived.ids.items) births
     (ap (λ s. into_iter_items (zip_first s)) same ∙ ap into_iter_items zipped.first
     ∙ c.into_iter.ensures.rest)
     (search rules))
@@ -40,13 +40,13 @@ road c =
 pub place_newborn-requires-clause-birth : goal.place_newborn-requires-clause-birth
 place_newborn-requires-clause-birth c =
     let config = values_of c.args.config.now in
-    let births = deliveries_in c.args.births in
+    let births = deliveries_in c.args.lived in
     let placings = placings_of config (scene_in c.args.scene.now) births in
     let n = length c.loop-newborn.yielded in
     let newborn = c.in-Some.newborn in
     let parent = c.id_in-parent.ensures
     ∙ ap (λ (ids : List ℕ). get_or ids newborn.cell 0) c.deref.ensures.value in
-    let birth = delivery_at c.args.births.ids.items newborn in
+    let birth = delivery_at c.args.lived.ids.items newborn in
     let here = YieldsList-turn
     (road (goal.at.place_newborn-requires-clause-birth c).After-into_iter-newborn-iterator)
     c.loop-newborn.yielded c.loop-newborn.newborn-iterator c.loop-newborn.yielded_by c.next.result
@@ -66,13 +66,13 @@ pub loop-newborn-preserved : goal.loop-newborn-preserved
 loop-newborn-preserved c =
     let config = values_of c.args.config.now in
     let first = scene_in c.args.scene.now in
-    let turns = turns_of config first (deliveries_in c.args.births) in
+    let turns = turns_of config first (deliveries_in c.args.lived) in
     let so_far = c.loop-newborn.yielded in
     let n = length so_far in
     let newborn = c.in-Some.newborn in
     let placing = c.in-Some.placing in
     let pair : Delivered × Placing = (newborn, placing) in
-    let turn : Delivery × Placing = (delivery_at c.args.births.ids.items newborn, placing) in
+    let turn : Delivery × Placing = (delivery_at c.args.lived.ids.items newborn, placing) in
     let parent = c.id_in-parent.ensures
     ∙ ap (λ (ids : List ℕ). get_or ids newborn.cell 0) c.deref.ensures.value in
     let before = c.loop-newborn.invariant in
@@ -106,9 +106,9 @@ unfolding after_births
 returns c =
     let config = values_of c.args.config.now in
     let first = scene_in c.args.scene.now in
-    let births = c.args.births in
-    let placings = placings_of config first (deliveries_in births) in
-    let turns = turns_of config first (deliveries_in births) in
+    let lived = c.args.lived in
+    let placings = placings_of config first (deliveries_in lived) in
+    let turns = turns_of config first (deliveries_in lived) in
     let so_far = c.loop-newborn.yielded in
     let at = (goal.at.returns c).After-into_iter-newborn-iterator in
     let whole = YieldsList-end (road at) so_far c.loop-newborn.newborn-iterator c.loop-newborn.yielded_by
@@ -125,7 +125,7 @@ returns c =
       genomes = ap (λ (s : Scene). genomes_ever s.everyone) scene
           ∙ placed-genomes config first turns
           ∙ ap (λ gs. genomes_ever first.everyone ++ gs)
-          (genomes-beside births placings
+          (genomes-beside lived placings
           (sym (ap length (found at)) ∙ ap length c.into_vec.ensures
           ∙ c.in_ok-placings.ensures.count));
       size = c.loop-newborn.invariant.size;
@@ -133,8 +133,8 @@ returns c =
         arith,
         c.loop-newborn.invariant.everyone,
         whole.1,
-        length-zip (deliveries_in births) placings,
-        length-map births.delivered.items (delivery_at births.ids.items),
+        length-zip (deliveries_in lived) placings,
+        length-map lived.born.items (delivery_at lived.ids.items),
         c.in_ok-placings.ensures.count,
         ap length (found at),
         ap length c.into_vec.ensures,

@@ -8,7 +8,7 @@ invariant-loop-newborn l =
     let config = values_of l.config in
     let first = scene_in l.fn.scene in
     let turns = take (length l.yielded)
-    (turns_of config first (deliveries_in l.fn.births)) in
+    (turns_of config first (deliveries_in l.fn.lived)) in
     record {
       scene : scene_in l.scene ≡ fold (with_newborn config) first turns;
       text : l.text.items ≡ l.fn.text.items

@@ -9,8 +9,8 @@ use Rattle.world_core.proofs.births.placings_of.Goals as goal
 pub place-requires : goal.place-requires
 place-requires c =
     let torus = c.torus_of-torus.result in
-    let births = c.args.births.now.delivered.items in
-    let at = delivery_at c.args.births.now.ids.items in
+    let births = c.args.lived.now.born.items in
+    let at = delivery_at c.args.lived.now.ids.items in
     let are = c.in_ok-parents.ensures ∙ ap (map (λ (d : Delivered). d.cell)) c.deref.ensures.value in
     let cells = c.args.scene.now.cells in
     let parents = c.in_ok-parents.parents in
@@ -43,8 +43,8 @@ place-requires c =
 pub returns-clause-placings : goal.returns-clause-placings
 unfolding placings_of
 returns-clause-placings c =
-    let births = c.args.births.now.delivered.items in
-    let at = delivery_at c.args.births.now.ids.items in
+    let births = c.args.lived.now.born.items in
+    let at = delivery_at c.args.lived.now.ids.items in
     let scene = scene_in c.args.scene.now in
     let parents =
     c.in_ok-parents.ensures ∙ ap (map (λ (d : Delivered). d.cell)) c.deref.ensures.value

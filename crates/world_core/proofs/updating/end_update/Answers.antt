@@ -1,5 +1,5 @@
 use Rattle.std.proofs.Common.{◌≡◌, ◌∙◌, ◌++◌, ◌∷◌, [], All, ap, length, map, subst, sym, ℕ, List, arith}
-use Rattle.world_core.proofs.Prelude.{genome_in, Letter, lines_text, Count, line_text, values_of, birth_lines, event_lines, scene_stats, after_births, after_events, AreDeliveries, with_births, deliveries_in, departure_line, HasNumber, genomes_ever, Grows, SceneValue, scene_in}
+use Rattle.world_core.proofs.Prelude.{genome_in, Letter, lines_text, Count, line_text, values_of, birth_lines, event_lines, scene_stats, after_births, after_events, AreDeliveries, with_births, deliveries_in, departure_line, departures_in, HasNumber, genomes_ever, Grows, SceneValue, scene_in}
 use Rattle.world_core.proofs.GrowLemmas.{Grows_births, Grows_on}
 use Rattle.world_core.proofs.UpdateLemmas.{joined}
 use Rattle.world_core.proofs.updating.end_update.Given as given
@@ -8,11 +8,11 @@ use Rattle.world_core.proofs.updating.end_update.Goals as goal
 
 -- the scene once the newborns stand in their cells
 placed : (g : given.Over) (c : In_ok-place_births g) → scene_in c.place_births.new.scene
-    ≡ with_births (values_of c.args.config.now) (scene_in c.args.scene.now) c.args.dead.now
-    (deliveries_in c.args.births)
+    ≡ with_births (values_of c.args.config.now) (scene_in c.args.scene.now) (departures_in c.args.lived)
+    (deliveries_in c.args.lived)
 placed g c = c.in_ok-place_births.ensures.scene
     ∙ ap (λ (s : SceneValue). after_births (values_of c.args.config.now) (scene_in s)
-    (deliveries_in c.args.births)) c.in_ok-bury.ensures.scene
+    (deliveries_in c.args.lived)) c.in_ok-bury.ensures.scene
 
 pub place_births-requires-clause-size : goal.place_births-requires-clause-size
 place_births-requires-clause-size g c =
@@ -21,18 +21,18 @@ place_births-requires-clause-size g c =
 pub place_births-requires-clause-births : goal.place_births-requires-clause-births
 place_births-requires-clause-births g c =
     subst (λ (n : ℕ). AreDeliveries (values_of c.args.config.now) n
-    (deliveries_in c.args.births))
+    (deliveries_in c.args.lived))
     (sym (ap (λ (s : SceneValue). length s.cells) c.in_ok-bury.ensures.scene)) c.requires.births
 
 pub place_births-requires-clause-numbers : goal.place_births-requires-clause-numbers
 place_births-requires-clause-numbers g c =
-    subst (λ (bank : List (List Letter)). All (HasNumber bank) c.args.births.delivered.items)
+    subst (λ (bank : List (List Letter)). All (HasNumber bank) c.args.lived.born.items)
     (sym (ap (λ (s : SceneValue). s.bank) c.in_ok-bury.ensures.scene)) c.requires.numbers
 
 pub returns-clause-ends : goal.returns-clause-ends
 returns-clause-ends g c =
     let config = values_of c.args.config.now in
-    let births = c.args.births.delivered.items in
+    let births = c.args.lived.born.items in
     let first = c.args.scene.now in
     let last = c.place_births.new.scene in
     let buried = c.in_ok-bury.ensures.scene in
@@ -68,8 +68,8 @@ returns-clause-ends g c =
 pub returns-clause-text : goal.returns-clause-text
 returns-clause-text g c =
     let config = values_of c.args.config.now in
-    let births = deliveries_in c.args.births in
-    let dead = map (departure_line c.args.scene.now.update) c.args.dead.now in
+    let births = deliveries_in c.args.lived in
+    let dead = map (departure_line c.args.scene.now.update) (departures_in c.args.lived) in
     let start = c.args.text.now.items in
     let stats = c.stats-stats.result in
     let all = placed g (goal.at.returns-clause-text g c).In_ok-place_births in

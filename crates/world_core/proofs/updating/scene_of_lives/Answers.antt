@@ -6,7 +6,7 @@ use Rattle.world_core.proofs.updating.scene_of_lives.Goals as goal
 pub returns-clause-deliveries : goal.returns-clause-deliveries
 returns-clause-deliveries g c =
     subst (λ n. AreDeliveries (values_of c.args.config.now) n
-    (deliveries_in c.in_ok-cells.births))
+    (deliveries_in c.in_ok-cells.lived))
     (ap length c.in_ok-cells.ensures.cells
     ∙ length_lived (values_of c.args.config.now) _ c.scene.inside.cells.cells
     ∙ ap (λ (s : SceneValue). length s.cells) c.scene.view_is)

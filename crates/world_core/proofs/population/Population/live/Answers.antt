@@ -1,5 +1,5 @@
-use Rattle.std.proofs.Common.{◌≡◌, ◌∙◌, ◌+◌, ◌<◌, ◌≤◌, ◌^◌, All, List, None, Option, ap, arith, get_or, length, map, subst, sum, sym, ℕ}
-use Rattle.world_core.proofs.Prelude.{length-map, round_numbers, standing_in, Letter, slices_of, values_of, lives_of, merit_in, slices_at, Delivery, births_of, Occupant, AreBounded, AreBoundedLives, occupants_of, IsKeptOf, PopulationValue, merit_or_zero, occupant_genome, TakesIn, deliveries_in, delivery_at, departure_by}
+use Rattle.std.proofs.Common.{◌≡◌, ◌∙◌, ◌+◌, ◌<◌, ◌≤◌, ◌^◌, All, List, None, Option, ap, arith, get_or, length, map, Ok, subst, sum, sym, ℕ}
+use Rattle.world_core.proofs.Prelude.{IfOk-at_ok, left_in, part_from, shard_lives_of, length-map, round_numbers, standing_in, Letter, slices_of, values_of, lives_of, merit_in, slices_at, Delivery, births_of, Occupant, AreBounded, AreBoundedLives, occupants_of, IsKeptOf, PopulationValue, merit_or_zero, occupant_genome, TakesIn, deliveries_in, delivery_at, departure_by}
 use Rattle.world_core.proofs.BoundLemmas.{lives-bounded, lives-keep}
 use Rattle.world_core.proofs.CellTableLemmas.{occupants_of-length}
 use Rattle.world_core.proofs.CountLemmas.{GoesOn}
@@ -7,46 +7,61 @@ use Rattle.world_core.proofs.KeptOfLemmas.{IsKeptOf-more}
 use Rattle.world_core.proofs.LivedLemmas.{LiveApart, cells-long, goes-on, lived-births, lived-cells, lived-dead, lived-length, merits-fit, slices-are, young-are}
 use Rattle.world_core.proofs.TurnLemmas.{AreRead, IsRead, all-counted, can-count-here, counted-here}
 use Rattle.world_core.proofs.population.Population.live.Given as given
-use Rattle.world_core.proofs.population.Population.live.Goals.{After-index-in-loop-cell-2, In-loop-cell, In_ok-births}
+use Rattle.world_core.proofs.population.Population.live.Goals.{After-index-in-loop-cell-2, In-loop-cell, In_ok-genotypes}
 use Rattle.world_core.proofs.population.Population.live.Goals as goal
 
+-- what the shards gave
+module _ (g : given.Over) (c : In_ok-genotypes g) where
+  -- the call gave it
+  given_by : c.live_in_shards-ended.result
+      ≡ Ok (c.in_ok-genotypes.genotypes, c.in_ok-genotypes.ended, c.in_ok-genotypes.outcome)
+  given_by = c.in_ok-genotypes.ensures.0
+
+  -- the cells
+  cells_by : c.in_ok-genotypes.ended.organisms.items ≡ map left_in
+      (shard_lives_of (round_numbers c.round_at-round.result)
+      (part_from 0 c.cells.inside.organisms.items c.in_ok-slices.slices.items))
+  cells_by = IfOk-at_ok _ given_by c.live_in_shards-ended.ensures.cells
+
+  -- what is counted of them
+  standings_by : c.in_ok-genotypes.ended.standings.items
+      ≡ map standing_in c.in_ok-genotypes.ended.organisms.items
+  standings_by = IfOk-at_ok _ given_by c.live_in_shards-ended.ensures.standings
+
+  -- the bank
+  bank_by : TakesIn c.self.inside.genotypes c.in_ok-genotypes.genotypes
+      c.in_ok-genotypes.ended.births.items
+  bank_by = IfOk-at_ok _ given_by c.live_in_shards-ended.ensures.bank
+
 -- the cells as their shards had them
-apart : (g : given.Over) (c : In_ok-births g)
+apart : (g : given.Over) (c : In_ok-genotypes g)
     → LiveApart (values_of c.args.config.now) (c.args.update + 1) c.args.self.cells
     c.cells.inside.organisms.items c.cells.inside.ids.items c.in_ok-slices.slices.items
     (round_numbers c.round_at-round.result)
-apart g c =
-    let config = values_of c.args.config.now in
-    let were = c.cells.view_is ∙ ap (λ (p : PopulationValue). p.cells) c.self.view_is in
-    record {
-      long = c.cells.invariant.long;
-      were = were;
-      bought = slices-are config c.args.self.cells c.cells.inside.organisms.items
-          c.cells.inside.ids.items c.in_ok-slices.slices.items c.cells.inside.standings.items
-          c.cells.invariant.long were c.cells.invariant.counted
-          (c.in_ok-slices.ensures.slices
-          ∙ ap (λ all. slices_of (map merit_or_zero all) config.average_slices)
-          c.deref.ensures.value);
-      shared = c.round_at-round.ensures;
-    }
+apart g c = record {
+  long = c.cells.invariant.long;
+  were = c.cells.view_is ∙ ap (λ (p : PopulationValue). p.cells) c.self.view_is;
+  bought = c.in_ok-slices.ensures.slices;
+  shared = c.round_at-round.ensures;
+}
 
 -- no cell had too many steps
-few : (g : given.Over) (c : In_ok-births g) → (place : ℕ)
+few : (g : given.Over) (c : In_ok-genotypes g) → (place : ℕ)
     → get_or (slices_at (values_of c.args.config.now) c.args.self.cells) place 0 < 2 ^ 27
 few g c = subst (λ (steps : List ℕ). (place : ℕ) → get_or steps place 0 < 2 ^ 27)
     (apart g c).bought c.in_ok-slices.ensures.few
 
 -- whoever is left in a cell stood there before
-goes : (g : given.Over) (c : In_ok-births g) → (place : ℕ)
+goes : (g : given.Over) (c : In_ok-genotypes g) → (place : ℕ)
     → GoesOn (get_or c.cells.inside.organisms.items place None)
     (get_or c.in_ok-genotypes.ended.organisms.items place None)
 goes g c = goes-on (apart g c) c.in_ok-genotypes.ended.organisms.items
-    c.in_ok-genotypes.ensures.cells
+    (cells_by g c)
     (λ place. (let kept = lives-keep (values_of c.args.config.now) c.args.update c.args.self.cells
     c.requires.bounded c.requires.lives (few g c) place in (kept.cell, kept.genome)))
 
 -- what the count reads of the cells
-lists : (g : given.Over) (c : In_ok-births g)
+lists : (g : given.Over) (c : In_ok-genotypes g)
     → AreRead c.cells.inside.organisms.items c.in_ok-genotypes.ended.organisms.items
     c.self.inside.keys.items c.cells.inside.standings.items
     c.in_ok-genotypes.ended.standings.items
@@ -54,14 +69,14 @@ lists g c = record {
   keyed = c.self.invariant.genotypes.size ∙ length-map c.self.inside.cells occupant_genome
       ∙ ap (λ (p : PopulationValue). length p.cells) c.self.view_is ∙ cells-long (apart g c);
   before_are = c.cells.invariant.counted;
-  after_are = c.in_ok-genotypes.ensures.standings;
+  after_are = (standings_by g c);
 }
 
 -- there are as many organisms and gaps as before
-left-long : (g : given.Over) (c : In_ok-births g)
+left-long : (g : given.Over) (c : In_ok-genotypes g)
     → length c.in_ok-genotypes.ended.organisms.items ≡ length c.cells.inside.organisms.items
 left-long g c = sym (lived-length (apart g c) c.in_ok-genotypes.ended.organisms.items
-    c.in_ok-genotypes.ensures.cells) ∙ c.cells.invariant.long
+    (cells_by g c)) ∙ c.cells.invariant.long
 
 -- somebody or nobody is left in the cell of a turn
 inside : (g : given.Over) (c : In-loop-cell g)
@@ -84,28 +99,8 @@ read g c = record {
   now_is = c.index-in-loop-cell-2.ensures;
 }
 
-pub slices_by-requires-clause-cells : goal.slices_by-requires-clause-cells
-slices_by-requires-clause-cells g c =
-    let os = c.cells.inside.organisms.items in
-    omega (
-      arith,
-      ap length c.deref.ensures.value,
-      ap length c.cells.invariant.counted,
-      length-map os standing_in,
-      occupants_of-length os c.cells.inside.ids.items c.cells.invariant.long,
-      ap length c.cells.view_is,
-      c.self.invariant.sums.few,
-    )
-
-pub slices_by-requires-clause-merits : goal.slices_by-requires-clause-merits
-slices_by-requires-clause-merits g c =
-    merits-fit c.cells.inside.organisms.items c.cells.inside.ids.items c.deref.result.now
-    c.cells.invariant.long (c.deref.ensures.value ∙ c.cells.invariant.counted)
-    (subst (All (λ (slot : Option Occupant). merit_in slot ≤ 2 ^ 38)) (sym c.cells.view_is)
-    c.self.invariant.sums.fits)
-
-pub live_in_shards-requires-clause-cells : goal.live_in_shards-requires-clause-cells
-live_in_shards-requires-clause-cells g c l b =
+pub live_in_shards-ended-requires-clause-cells : goal.live_in_shards-ended-requires-clause-cells
+live_in_shards-ended-requires-clause-cells g c l b =
     let long = occupants_of-length c.cells.inside.organisms.items c.cells.inside.ids.items
     c.cells.invariant.long in (
       omega (
@@ -118,8 +113,19 @@ live_in_shards-requires-clause-cells g c l b =
       omega (arith, long, ap length c.cells.view_is, c.self.invariant.sums.few),
     )
 
-pub live_in_shards-requires-clause-young : goal.live_in_shards-requires-clause-young
-live_in_shards-requires-clause-young g c l b =
+pub live_in_shards-ended-requires-clause-slices : goal.live_in_shards-ended-requires-clause-slices
+live_in_shards-ended-requires-clause-slices g c l b =
+    omega (
+      arith,
+      c.in_ok-slices.ensures.length,
+      occupants_of-length c.cells.inside.organisms.items c.cells.inside.ids.items
+          c.cells.invariant.long,
+      ap length c.cells.view_is,
+      ap (λ (p : PopulationValue). length p.cells) c.self.view_is,
+    )
+
+pub live_in_shards-ended-requires-clause-young : goal.live_in_shards-ended-requires-clause-young
+live_in_shards-ended-requires-clause-young g c l b =
     young-are c.args.update c.cells.inside.organisms.items c.cells.inside.ids.items
     c.cells.invariant.long c.requires.update
     (subst (AreBounded c.args.update)
@@ -138,8 +144,8 @@ index-requires g c =
     omega (
       arith,
       inside g at.In-loop-cell,
-      left-long g at.In_ok-births,
-      (lists g at.In_ok-births).keyed,
+      left-long g at.In_ok-genotypes,
+      (lists g at.In_ok-genotypes).keyed,
       c.self.inside.keys.ok.0,
     )
 
@@ -149,7 +155,7 @@ index-requires-in-loop-cell g c =
     omega (
       arith,
       inside g at.In-loop-cell,
-      left-long g at.In_ok-births,
+      left-long g at.In_ok-genotypes,
       ap length c.cells.invariant.counted,
       length-map c.cells.inside.organisms.items standing_in,
       c.cells.inside.standings.ok.0,
@@ -161,7 +167,7 @@ index-requires-in-loop-cell-2 g c =
     omega (
       arith,
       inside g at.In-loop-cell,
-      ap length c.in_ok-genotypes.ensures.standings,
+      ap length (standings_by g at.In_ok-genotypes),
       length-map c.in_ok-genotypes.ended.organisms.items standing_in,
       c.in_ok-genotypes.ended.standings.ok.0,
     )
@@ -169,8 +175,8 @@ index-requires-in-loop-cell-2 g c =
 pub count_change-requires : goal.count_change-requires
 count_change-requires g c =
     let at = goal.at.count_change-requires g c in
-    let before = at.In_ok-births in
-    can-count-here (apart g before) c.in_ok-genotypes.ensures.cells c.one_index.ensures.list
+    let before = at.In_ok-genotypes in
+    can-count-here (apart g before) (cells_by g before) c.one_index.ensures.list
     (lists g before) c.args.self.bank c.loop-cell.census c.loop-cell.census
     c.loop-cell.cell (inside g at.In-loop-cell) (goes g before c.loop-cell.cell)
     c.loop-cell.invariant (read g at.After-index-in-loop-cell-2)
@@ -178,26 +184,29 @@ count_change-requires g c =
 pub loop-cell-preserved : goal.loop-cell-preserved
 loop-cell-preserved g c =
     let at = goal.at.loop-cell-preserved g c in
-    let before = at.In_ok-births in
-    counted-here (apart g before) c.in_ok-genotypes.ensures.cells c.one_index.ensures.list
+    let before = at.In_ok-genotypes in
+    counted-here (apart g before) (cells_by g before) c.one_index.ensures.list
     (lists g before) c.args.self.bank c.loop-cell.census c.count_change.new.census
     c.loop-cell.cell (inside g at.In-loop-cell) (goes g before c.loop-cell.cell)
     c.loop-cell.invariant (read g at.After-index-in-loop-cell-2) c.count_change.ensures
 
 pub invariant_of-population : goal.invariant_of-population
-invariant_of-population g c = record {
-  long = lived-length (apart g (goal.at.invariant_of-population g c).In_ok-births)
-      c.in_ok-genotypes.ended.organisms.items c.in_ok-genotypes.ensures.cells;
-  counted = c.in_ok-genotypes.ensures.standings;
-}
+invariant_of-population g c =
+    let before = (goal.at.invariant_of-population g c).In_ok-genotypes in
+    record {
+      long = lived-length (apart g before) c.in_ok-genotypes.ended.organisms.items
+          (cells_by g before);
+      counted = standings_by g before;
+    }
 
 pub invariant_of-population-2 : goal.invariant_of-population-2
 invariant_of-population-2 g c =
+    let before = (goal.at.invariant_of-population-2 g c).In_ok-genotypes in
     let keys = c.self.inside.keys.items in
     let counts = c.loop-cell.census in
     let left = occupants_of c.in_ok-genotypes.ended.organisms.items c.cells.inside.ids.items in
-    let counted = all-counted (apart g (goal.at.invariant_of-population-2 g c).In_ok-births)
-    c.in_ok-genotypes.ensures.cells c.loop-cell.cell c.args.self.bank keys counts
+    let counted = all-counted (apart g before) (cells_by g before) c.loop-cell.cell
+    c.args.self.bank keys counts
     (omega (
       arith,
       c.loop-cell-test.false,
@@ -206,67 +215,64 @@ invariant_of-population-2 g c =
     ))
     c.loop-cell.invariant in
     IsKeptOf-more c.one_index.ensures.list left c.self.inside.genotypes c.in_ok-genotypes.genotypes
-    keys counts c.in_ok-genotypes.ensures.bank.stays c.in_ok-genotypes.ensures.different
+    keys counts (bank_by g before).stays
+    (IfOk-at_ok _ (given_by g before) c.live_in_shards-ended.ensures.different)
     (subst (λ (bank : List (List Letter)). IsKeptOf left bank keys counts)
     (sym (ap (λ (p : PopulationValue). p.bank) c.self.view_is)) counted)
 
 pub returns-clause-cells : goal.returns-clause-cells
 returns-clause-cells g c =
-    lived-cells (apart g (goal.at.returns-clause-cells g c).In_ok-births)
-    c.in_ok-genotypes.ended.organisms.items c.in_ok-genotypes.ensures.cells
+    let before = (goal.at.returns-clause-cells g c).In_ok-genotypes in
+    lived-cells (apart g before) c.in_ok-genotypes.ended.organisms.items (cells_by g before)
+
+-- the ids are those of the cells
+copied : (g : given.Over) (c : In_ok-genotypes g)
+    → c.in_ok-genotypes.ids_before.items ≡ c.cells.inside.ids.items
+copied g c = IfOk-at_ok _ c.in_ok-genotypes.ensures.1 c.copy_of-ids_before.ensures
+    ∙ c.deref.ensures.value
 
 -- the newborns are those of the cells' lives
-born : (g : given.Over) (c : In_ok-births g) → deliveries_in c.in_ok-births.births
+born : (g : given.Over) (c : In_ok-genotypes g)
+    → map (delivery_at c.in_ok-genotypes.ids_before.items) c.in_ok-genotypes.ended.births.items
     ≡ births_of (lives_of (values_of c.args.config.now) (c.args.update + 1) c.args.self.cells)
-born g c =
-    let ids = c.in_ok-births.ensures.ids ∙ c.deref-2.ensures.value in
-    (λ i. map (delivery_at (ids i)) (c.in_ok-births.ensures.delivered i))
+born g c = (λ i. map (delivery_at (copied g c i)) c.in_ok-genotypes.ended.births.items)
     ∙ lived-births (apart g c) c.in_ok-genotypes.ended.births.items
-    c.in_ok-genotypes.ensures.births
+    (IfOk-at_ok _ (given_by g c) c.live_in_shards-ended.ensures.births)
 
 pub returns-clause-births : goal.returns-clause-births
-returns-clause-births g c = born g (goal.at.returns-clause-births g c).In_ok-births
+returns-clause-births g c = born g (goal.at.returns-clause-births g c).In_ok-genotypes
 
 pub returns-clause-dead : goal.returns-clause-dead
 returns-clause-dead g c =
-    lived-dead (apart g (goal.at.returns-clause-dead g c).In_ok-births)
-    c.in_ok-genotypes.ended.dead.items c.in_ok-births.dead.items c.in_ok-genotypes.ensures.dead
-    (c.in_ok-births.ensures.dead ∙ ap (λ (ids : List ℕ). map (departure_by ids)
-    c.in_ok-genotypes.ended.dead.items) c.deref-2.ensures.value)
+    let before = (goal.at.returns-clause-dead g c).In_ok-genotypes in
+    lived-dead (apart g before) c.in_ok-genotypes.ended.dead.items _
+    (IfOk-at_ok _ (given_by g before) c.live_in_shards-ended.ensures.dead)
+    (ap (λ (ids : List ℕ). map (departure_by ids) c.in_ok-genotypes.ended.dead.items)
+    (copied g before))
 
 pub returns-clause-bank : goal.returns-clause-bank
 returns-clause-bank g c =
     let newborns = c.in_ok-genotypes.ended.births.items in
-    subst (TakesIn c.args.self.bank c.in_ok-genotypes.genotypes)
-    (sym c.in_ok-births.ensures.delivered)
-    (subst (λ (old : List (List Letter)). TakesIn old c.in_ok-genotypes.genotypes newborns)
-    (ap (λ (p : PopulationValue). p.bank) c.self.view_is) c.in_ok-genotypes.ensures.bank)
+    subst (λ (old : List (List Letter)). TakesIn old c.in_ok-genotypes.genotypes newborns)
+    (ap (λ (p : PopulationValue). p.bank) c.self.view_is)
+    (bank_by g (goal.at.returns-clause-bank g c).In_ok-genotypes)
 
 pub returns-clause-bounds : goal.returns-clause-bounds
 returns-clause-bounds g c =
-    let at = goal.at.returns-clause-bounds g c in
-    let live = apart g at.In_ok-births in
+    let before = (goal.at.returns-clause-bounds g c).In_ok-genotypes in
+    let live = apart g before in
     let config = values_of c.args.config.now in
     let cells = c.args.self.cells in
     let total : sum (slices_at config cells) < 2 ^ 27 =
     subst (λ (steps : List ℕ). sum steps < 2 ^ 27) live.bought
     (omega (arith, c.in_ok-slices.ensures.total)) in
     let many : length (slices_at config cells) ≡ length cells =
-    omega (
-      arith,
-      ap length live.bought,
-      c.in_ok-slices.ensures.length,
-      ap length c.deref.ensures.value,
-      ap length c.cells.invariant.counted,
-      length-map c.cells.inside.organisms.items standing_in,
-      cells-long live,
-    ) in
+    omega (arith, ap length live.bought, c.in_ok-slices.ensures.length) in
     let bounded = lives-bounded config c.args.update cells c.requires.bounded c.requires.lives
-    (few g at.In_ok-births) many total in
-    let cells_are = lived-cells live c.in_ok-genotypes.ended.organisms.items
-    c.in_ok-genotypes.ensures.cells in
+    (few g before) many total in
+    let cells_are = lived-cells live c.in_ok-genotypes.ended.organisms.items (cells_by g before) in
     subst (λ (all : List Delivery). AreBoundedLives config (c.args.update + 1)
     (occupants_of c.in_ok-genotypes.ended.organisms.items c.cells.inside.ids.items) all)
-    (sym (born g at.In_ok-births))
+    (sym (born g before))
     (subst (λ (left : List (Option Occupant)). AreBoundedLives config (c.args.update + 1) left
     (births_of (lives_of config (c.args.update + 1) cells))) (sym cells_are) bounded)
