@@ -6,6 +6,7 @@ ghost use Rattle.random_streams.specs.RandomStream.{after};
 ghost use Rattle.world_core.specs.Scenes.{genomes_ever, scene_in};
 
 use crate::everyone::Everyone;
+use crate::pairs::beside;
 use crate::scene::Scene;
 use avida_port::Memory;
 use cell_shards::BoxedOrganism;
@@ -134,7 +135,7 @@ pub(crate) fn first_scene<R: Wait>(rt: &R, alloc: Global, config: &Config) -> Re
         config.width * config.height,
         Everyone::none(alloc),
     )?;
-    found_in(
+    let founded = found_in(
         rt,
         alloc,
         config,
@@ -142,6 +143,7 @@ pub(crate) fn first_scene<R: Wait>(rt: &R, alloc: Global, config: &Config) -> Re
         0,
         config.founder_cell,
         &config.ancestor,
-    )?;
+    );
+    let (scene, ()) = beside(scene, founded)?;
     Ok(scene)
 }

@@ -6,6 +6,7 @@ ghost use Rattle.mutations.specs.RecordForm.{IsWithin};
 ghost use Rattle.world_core.specs.Scenes.{KeepsPast, scene_in};
 
 use crate::everyone::Everyone;
+use crate::pairs::beside;
 use crate::scene::Scene;
 use crate::settings::rates_at;
 use avida_port::Memory;
@@ -130,7 +131,8 @@ pub(crate) fn restored_scene<R: Wait>(
     ensures settled { IfOk result (λ scene. scene.first ≡ length scene.everyone) }
 {
     let mut scene = resumed_scene(alloc, head)?;
-    restore_all(rt, alloc, &mut scene, head, residents)?;
+    let restored = restore_all(rt, alloc, &mut scene, head, residents);
+    let (scene, ()) = beside(scene, restored)?;
     Ok(scene)
 }
 

@@ -5,6 +5,7 @@ ghost use Rattle.world_core.specs.LateTrees.{IsLateTreeOf, IsLeftBehind};
 ghost use Rattle.world_core.specs.Scenes.{WorldValue};
 
 use crate::late_tree::LateTree;
+use crate::pairs::beside;
 use crate::scene::Scene;
 use crate::updating::next_scene;
 use crate::world::{Present, World};
@@ -71,7 +72,8 @@ impl RunningWorld {
         let (mut scene, stats, text, grown) = next_scene(
             rt, alloc, rules, scene, workers, gate, grow,
         )?;
-        let tree = left_behind(alloc, &config, &mut scene, grown)?;
+        let tree = left_behind(alloc, &config, &mut scene, grown);
+        let ((scene, text), tree) = beside((scene, text), tree)?;
         let present = Present {
             config,
             scene,
@@ -94,7 +96,8 @@ impl RunningWorld {
     {
         let RunningWorld { present, tree } = self;
         let now = &present;
-        let tree = tree.grown(&now.config, now.scene.update)?;
+        let tree = tree.grown(&now.config, now.scene.update);
+        let (present, tree) = beside(present, tree)?;
         Ok(World { present, tree })
     }
 }

@@ -10,6 +10,7 @@ ghost use Rattle.world_core.specs.Population.{occupant_genome};
 use crate::first_tree::first_tree;
 use crate::founding::first_scene;
 use crate::late_tree::LateTree;
+use crate::pairs::beside;
 use crate::picture::WorldPicture;
 use crate::running_world::RunningWorld;
 use crate::scene::Scene;
@@ -116,7 +117,8 @@ impl World {
     {
         let config = Arc::new(alloc, config)?;
         let mut scene = first_scene(rt, alloc, &config)?;
-        let tree = first_tree(alloc, &config, &mut scene)?;
+        let tree = first_tree(alloc, &config, &mut scene);
+        let ((config, scene), tree) = beside((config, scene), tree)?;
         let stats = scene.stats(0);
         let present = Present {
             config,
