@@ -40,13 +40,11 @@ pub(crate) fn place_births(
     ensures text { OnOk result (text.new.items
         ≡ text.old.items ++ lines_text (birth_lines (values_of config.now)
         (scene_in scene.old) (deliveries_in lived))) }
-    ensures bank { OnOk result (scene.new.bank ≡ scene.old.bank) }
-    ensures genomes { OnOk result (genomes_ever scene.new.everyone
-        ≡ genomes_ever scene.old.everyone ++ map genome_in lived.born.items) }
-    ensures size { OnOk result (length scene.new.cells ≡ length scene.old.cells) }
-    ensures everyone { OnOk result
-        (length scene.new.everyone ≡ length scene.old.everyone + length lived.born.items) }
-    ensures first { OnOk result (scene.new.first ≡ scene.old.first) }
+    ensures grown { OnOk result ((length scene.new.cells ≡ length scene.old.cells)
+        × (length scene.new.everyone ≡ length scene.old.everyone + length lived.born.items)
+        × (scene.new.first ≡ scene.old.first) × (scene.new.bank ≡ scene.old.bank)
+        × (genomes_ever scene.new.everyone
+        ≡ genomes_ever scene.old.everyone ++ map genome_in lived.born.items)) }
 {
     let placings = placings_of(alloc, config, scene, &lived)?;
     let Lived { born, ids, .. } = lived;
@@ -117,10 +115,9 @@ fn place_newborn(
         (scene_in scene.old) (delivery_from parent newborn, placing.now)) }
     ensures text { OnOk result (text.new.items ≡ text.old.items
         ++ line_text (birth_line (scene_in scene.old) (delivery_from parent newborn, placing.now))) }
-    ensures bank { OnOk result (scene.new.bank ≡ scene.old.bank) }
-    ensures size { OnOk result (length scene.new.cells ≡ length scene.old.cells) }
-    ensures everyone { OnOk result (length scene.new.everyone ≡ length scene.old.everyone + 1) }
-    ensures first { OnOk result (scene.new.first ≡ scene.old.first) }
+    ensures grown { OnOk result ((length scene.new.cells ≡ length scene.old.cells)
+        × (length scene.new.everyone ≡ length scene.old.everyone + 1)
+        × (scene.new.first ≡ scene.old.first) × (scene.new.bank ≡ scene.old.bank)) }
 {
     let id = scene.next_id();
     let Delivered {

@@ -95,10 +95,10 @@ loop-newborn-preserved c =
           ++ line_text (birth_line scene (delivery_from p newborn, placing))) parent
           ∙ ap (λ (t : Delivery × Placing). c.loop-newborn.text.items
           ++ line_text (birth_line scene t)) here.1));
-      bank = told.bank ∙ before.bank;
-      size = told.size ∙ before.size;
-      everyone = omega (arith, long, told.everyone, before.everyone);
-      first = told.first ∙ before.first;
+      bank = told.grown.3 ∙ before.bank;
+      size = told.grown.0 ∙ before.size;
+      everyone = omega (arith, long, told.grown.1, before.everyone);
+      first = told.grown.2 ∙ before.first;
     }
 
 pub returns : goal.returns
@@ -121,23 +121,25 @@ returns c =
       text = c.loop-newborn.invariant.text
           ∙ ap (λ (done : List (Delivery × Placing)). c.args.text.now.items
           ++ lines_text (scan (with_newborn config) birth_line first done)) all;
-      bank = c.loop-newborn.invariant.bank;
-      genomes = ap (λ (s : Scene). genomes_ever s.everyone) scene
-          ∙ placed-genomes config first turns
-          ∙ ap (λ gs. genomes_ever first.everyone ++ gs)
-          (genomes-beside lived placings
-          (sym (ap length (found at)) ∙ ap length c.into_vec.ensures
-          ∙ c.in_ok-placings.ensures.count));
-      size = c.loop-newborn.invariant.size;
-      everyone = omega (
-        arith,
-        c.loop-newborn.invariant.everyone,
-        whole.1,
-        length-zip (deliveries_in lived) placings,
-        length-map lived.born.items (delivery_at lived.ids.items),
-        c.in_ok-placings.ensures.count,
-        ap length (found at),
-        ap length c.into_vec.ensures,
+      grown = (
+        c.loop-newborn.invariant.size,
+        omega (
+          arith,
+          c.loop-newborn.invariant.everyone,
+          whole.1,
+          length-zip (deliveries_in lived) placings,
+          length-map lived.born.items (delivery_at lived.ids.items),
+          c.in_ok-placings.ensures.count,
+          ap length (found at),
+          ap length c.into_vec.ensures,
+        ),
+        c.loop-newborn.invariant.first,
+        c.loop-newborn.invariant.bank,
+        ap (λ (s : Scene). genomes_ever s.everyone) scene
+            ∙ placed-genomes config first turns
+            ∙ ap (λ gs. genomes_ever first.everyone ++ gs)
+            (genomes-beside lived placings
+            (sym (ap length (found at)) ∙ ap length c.into_vec.ensures
+            ∙ c.in_ok-placings.ensures.count)),
       );
-      first = c.loop-newborn.invariant.first;
     }

@@ -42,23 +42,23 @@ returns-clause-ends g c =
       counts = c.stats-stats.ensures
           ∙ ap (scene_stats (scene_in c.apply_events.new.scene))
           (omega (arith, c.len-count.ensures));
-      size = c.in_ok-apply_events.ensures.size ∙ c.in_ok-place_births.ensures.size
+      size = c.in_ok-apply_events.ensures.size ∙ c.in_ok-place_births.ensures.grown.0
           ∙ ap (λ (s : SceneValue). length s.cells) buried;
       few = omega (
         arith,
         c.in_ok-apply_events.ensures.everyone,
-        c.in_ok-place_births.ensures.everyone,
+        c.in_ok-place_births.ensures.grown.1,
         ap (λ (s : SceneValue). length s.everyone) buried,
       );
-      first = c.in_ok-apply_events.ensures.first ∙ c.in_ok-place_births.ensures.first
+      first = c.in_ok-apply_events.ensures.first ∙ c.in_ok-place_births.ensures.grown.2
           ∙ ap (λ (s : SceneValue). s.first) buried;
       bank = λ old takes. (let all = ap (λ (s : SceneValue). s.everyone) buried in
-          let genomes = c.in_ok-place_births.ensures.genomes
+          let genomes = c.in_ok-place_births.ensures.grown.4
           ∙ ap (λ everyone. genomes_ever everyone ++ map genome_in births) all in
           let born : Grows old first.bank first.everyone last.everyone =
           Grows_births old first.bank first.everyone last.everyone births takes
           genomes in
-          let same = c.in_ok-place_births.ensures.bank ∙ ap (λ (s : SceneValue). s.bank) buried in
+          let same = c.in_ok-place_births.ensures.grown.3 ∙ ap (λ (s : SceneValue). s.bank) buried in
           Grows_on old last.bank c.apply_events.new.scene.bank first.everyone last.everyone
           c.apply_events.new.scene.everyone
           (subst (λ bank. Grows old bank first.everyone last.everyone) (sym same) born)
