@@ -1,5 +1,5 @@
 // The cells of a world in shards, and what their lives leave as one again.
-ghost use Rattle.std.specs.Prelude.{◌≡◌, ◌+◌, ◌<◌, ◌≤◌, ◌^◌, ◌++◌, ◌∷◌, List, All, IfOk, Ok, OnOk, drop, length, map, sum, take};
+ghost use Rattle.std.specs.Prelude.{◌≡◌, ◌+◌, ◌<◌, ◌≤◌, ◌^◌, ◌++◌, ◌∷◌, [], List, All, IfOk, Ok, drop, length, map, sum, take};
 ghost use Rattle.world_core.specs.Prelude.{IsPermutation, IsPrefix, IsYoung, births_from, deaths_from, left_in, part_from, round_numbers, shard_lives_of, standing_in, IsNumbered, birth_of, all_shares, own_calls_of};
 ghost use Rattle.world_core.specs.Scenes.{TakesIn};
 ghost use Rattle.world_core.specs.Population.{AreDifferent};
@@ -73,7 +73,8 @@ pub(crate) fn live_in_shards<
     parts_live_as_one();
     let Genotypes { bank, seat, len } = genotypes;
     seat.owns_all();
-    let jobs = jobs_of(alloc, &bank, seat, cells, slices, shards_for(workers))?;
+    let whole = job_from(0, cells, slices, seat);
+    let jobs = jobs_of(alloc, &bank, whole, shards_for(workers))?;
     let threads = workers as usize;
     let (shards, outcome) = run_all_beside(
         rt, alloc, jobs, threads, &bank, round, gate, meanwhile,
@@ -108,68 +109,50 @@ fn shards_for(workers: u32) -> u32
     if workers == 1 { 1 } else { workers.max(32) }
 }
 
-/// The cells cut into a job for each shard, cut off from the last to the first, so that each job
-/// is about as much work. The first job keeps the seat; each other has one that was split from it.
-fn jobs_of(
-    alloc: Global,
-    bank: &Bank,
-    seat: Seat,
-    cells: Vec<Option<BoxedOrganism>>,
-    slices: Vec<u64>,
-    shards: u32,
-) -> Result<Vec<Job>, Memory>
-    requires cells { (1 ≤ length cells.items) × (length cells.items ≤ CELLS) }
-    requires slices { length slices.items ≡ length cells.items }
-    requires few { All (λ steps. steps < 2 ^ 27) slices.items }
-    requires total { sum slices.items ≤ 65536000 }
+/// The job of all cells cut into one for each shard, cut off from the last to the first, so that
+/// each is about as much work. The first keeps the seat; each other has one that was split from it.
+fn jobs_of(alloc: Global, bank: &Bank, whole: Job, shards: u32) -> Result<Vec<Job>, Memory>
+    requires cells { (whole.first ≡ 0) × (length whole.cells ≤ CELLS) }
+    requires slices { length whole.slices ≡ length whole.cells }
+    requires few { All (λ steps. steps < 2 ^ 27) whole.slices }
+    requires total { sum whole.slices ≤ 65536000 }
     requires shards { (1 ≤ shards) × (shards ≤ 64) }
-    requires seat { (seat.bank ≡ bank.now) × (seat.share ≡ all_shares) }
-    ensures cells { IfOk result (λ jobs. PartCells jobs.items cells.items slices.items) }
-    ensures load { IfOk result (λ jobs. ShareLoad shards slices.items jobs.items) }
-    ensures seats { IfOk result (λ jobs. ShareSeat seat jobs.items) }
-    ensures few { IfOk result (λ jobs. length jobs.items ≤ 64) }
+    requires seat { (whole.seat.bank ≡ bank.now) × (whole.seat.share ≡ all_shares) }
+    ensures parts { IfOk result (λ jobs. PartCells jobs.items whole.cells whole.slices
+        × ShareSeat whole.seat jobs.items × (length jobs.items ≤ 64)) }
+    ensures load { IfOk result (λ jobs. ShareLoad shards whole.slices jobs.items) }
 {
     if shards == 1 {
-        return one_job(alloc, seat, cells, slices);
+        return one_job(alloc, whole);
     }
     shards_part_the_cells();
-    let mut loads = loads_of(alloc, &slices)?;
+    let mut loads = loads_of(alloc, whole.slices.as_slice())?;
     let all: u64 = loads.iter().sum();
     let mut before = all;
-    let mut seat = seat;
-    let mut cells = cells;
-    let mut slices = slices;
     let mut jobs = Vec::with_capacity(alloc, shards as usize)?;
+    let mut rest = whole;
     let mut shard = shards - 1;
     while shard > 0 {
         let (share, _) = bounds(all.max(1) as u32, shards, shard);
         let start = start_of(&loads, before, u64::from(share));
         before = start.before;
         loads.truncate(start.cell);
-        let job = cut_off(bank, &mut seat, &mut cells, &mut slices, start.cell)?;
-        jobs.push(job)?;
+        let (front, job) = cut(bank, rest, start.cell)?;
+        jobs.push_reserved(job);
+        rest = front;
         shard -= 1;
     }
-    jobs.push(job_from(0, cells, slices, seat))?;
+    jobs.push_reserved(rest);
     jobs.reverse();
     Ok(jobs)
 }
 
-/// All cells as one job, which has the seat.
-fn one_job(
-    alloc: Global,
-    seat: Seat,
-    cells: Vec<Option<BoxedOrganism>>,
-    slices: Vec<u64>,
-) -> Result<Vec<Job>, Memory>
-    requires { length slices.items ≡ length cells.items }
-    ensures cells { IfOk result (λ jobs. PartCells jobs.items cells.items slices.items) }
-    ensures load { IfOk result (λ jobs. ShareLoad 1 slices.items jobs.items) }
-    ensures seats { IfOk result (λ jobs. ShareSeat seat jobs.items) }
-    ensures few { IfOk result (λ jobs. length jobs.items ≤ 64) }
+/// A list of this job.
+fn one_job(alloc: Global, job: Job) -> Result<Vec<Job>, Memory>
+    ensures { IfOk result (λ jobs. jobs.items ≡ job ∷ []) }
 {
     let mut jobs = Vec::with_capacity(alloc, 1)?;
-    jobs.push(job_from(0, cells, slices, seat))?;
+    jobs.push_reserved(job);
     Ok(jobs)
 }
 
@@ -190,33 +173,30 @@ fn job_from(first: u32, cells: Vec<Option<BoxedOrganism>>, slices: Vec<u64>, sea
     }
 }
 
-/// The cells from this one on leave as a job, which has a seat that was split from this one. After
-/// `Memory` drop all.
-fn cut_off(
-    bank: &Bank,
-    seat: &mut Seat,
-    cells: &mut Vec<Option<BoxedOrganism>>,
-    slices: &mut Vec<u64>,
-    start: usize,
-) -> Result<Job, Memory>
-    requires cells { start ≤ length cells.old.items }
-    requires slices { start ≤ length slices.old.items }
+/// The job of the first cells in two. Those from this one on have a seat that was split from the
+/// other.
+fn cut(bank: &Bank, whole: Job, start: usize) -> Result<(Job, Job), Memory>
+    requires cells { (start ≤ length whole.cells) × (start ≤ length whole.slices) }
     requires small { start < 2 ^ 32 }
-    requires bank { seat.old.bank ≡ bank.now }
-    requires share { 2 ≤ seat.old.share }
-    ensures job { IfOk result (λ job. job ≡ record {
+    requires seat { (whole.seat.bank ≡ bank.now) × (2 ≤ whole.seat.share) }
+    ensures { IfOk result (λ parts. (parts.0 ≡ record {
+      first = 0;
+      cells = take start whole.cells;
+      slices = take start whole.slices;
+      seat = seat_without whole.seat 1;
+    }) × (parts.1 ≡ record {
       first = start;
-      cells = drop start cells.old.items;
-      slices = drop start slices.old.items;
-      seat = seat_from seat.old;
-    }) }
-    ensures cells { OnOk result (cells.new.items ≡ take start cells.old.items) }
-    ensures slices { OnOk result (slices.new.items ≡ take start slices.old.items) }
-    ensures seat { OnOk result (seat.new ≡ seat_without seat.old 1) }
+      cells = drop start whole.cells;
+      slices = drop start whole.slices;
+      seat = seat_from whole.seat;
+    })) }
 {
-    let part = cells.split_off(start)?;
-    let steps = slices.split_off(start)?;
-    Ok(job_from(start as u32, part, steps, bank.split(seat)))
+    let mut cells = whole.cells.into_vec();
+    let mut slices = whole.slices.into_vec();
+    let mut seat = whole.seat;
+    let (part, steps) = both(cells.split_off(start), slices.split_off(start))?;
+    let back = job_from(start as u32, part, steps, bank.split(&mut seat));
+    Ok((job_from(0, cells, slices, seat), back))
 }
 
 /// All shards as one, joined in their order.
@@ -284,10 +264,10 @@ fn appended<T: Drop>(front: Items<T>, back: Items<T>) -> Result<Items<T>, Memory
 }
 
 /// Two values, if there was memory for both.
-pub(crate) fn both<A: Drop, B: Drop>(
-    one: Result<A, Memory>,
-    other: Result<B, Memory>,
-) -> Result<(A, B), Memory>
+pub(crate) fn both<A: Drop, B: Drop, E: Drop>(
+    one: Result<A, E>,
+    other: Result<B, E>,
+) -> Result<(A, B), E>
     ensures { IfOk result (λ all. (one ≡ Ok all.0) × (other ≡ Ok all.1)) }
 {
     let one = one?;

@@ -1,5 +1,5 @@
-use Rattle.std.proofs.Common.{◌≡◌, ◌∙◌, ◌<◌, ◌^◌, List, All, ap, arith, fold, length, map, subst, sym}
-use Rattle.world_core.proofs.Prelude.{All-same, All-weaker, IsYoung, round_numbers, standing_in, IsNumbered, birth_of, Delivered, Finished, genotypes_of, Letter, TakesIn}
+use Rattle.std.proofs.Common.{◌≡◌, ◌∙◌, ◌<◌, ◌≤◌, ◌^◌, List, All, ap, arith, fold, length, map, subst, sym}
+use Rattle.world_core.proofs.Prelude.{All-same, All-weaker, IsYoung, round_numbers, standing_in, IsNumbered, birth_of, Delivered, Finished, genotypes_of, Job, Letter, TakesIn, PartCells, ShareSeat}
 use Rattle.world_core.proofs.GenotypeLemmas.{genotypes-different, len-taken, next_len}
 use Rattle.world_core.proofs.CutLemmas.{jobs-can-run}
 use Rattle.world_core.proofs.JoinLemmas.{EndsAs, each-finished, ends-as, numbers-finished, seats-finished, seats-shared, takes-in}
@@ -7,16 +7,22 @@ use Rattle.world_core.proofs.sharding.live_in_shards.Given as given
 use Rattle.world_core.proofs.sharding.live_in_shards.Goals.{After-owns_all-2, In_ok-cells}
 use Rattle.world_core.proofs.sharding.live_in_shards.Goals as goal
 
+-- the jobs have all cells of this one, and its seat
+abbrev AreOf : List Job → Job → Type 0
+AreOf jobs whole =
+    PartCells jobs whole.cells whole.slices × ShareSeat whole.seat jobs × (length jobs ≤ 64)
+
 -- the shards as one
 ends : (g : given.Over) (c : In_ok-cells g)
     → EndsAs (round_numbers c.args.round.now) c.genotypes.inside.seat c.args.cells.items
     c.args.slices.items c.in_ok-cells.field-0
 ends g c =
+    let parts = subst (AreOf c.in_ok-jobs.jobs.items) c.job_from-whole.ensures
+    c.in_ok-jobs.ensures.parts in
     ends-as c.parts_live_as_one.ensures (round_numbers c.args.round.now) c.genotypes.inside.seat
     c.args.cells.items c.args.slices.items c.in_ok-jobs.jobs.items c.in_ok-shards.shards.items
-    c.in_ok-cells.field-0 c.in_ok-jobs.ensures.cells c.in_ok-jobs.ensures.seats
-    (omega (arith, c.in_ok-jobs.ensures.few, c.genotypes.invariant.1)) c.in_ok-shards.ensures.finished
-    c.in_ok-cells.ensures
+    c.in_ok-cells.field-0 parts.0 parts.1 (omega (arith, parts.2, c.genotypes.invariant.1))
+    c.in_ok-shards.ensures.finished c.in_ok-cells.ensures
 
 -- the bank has taken in their newborns
 takes : (g : given.Over) (c : After-owns_all-2 g)
@@ -35,7 +41,8 @@ takes g c ends =
 
 pub run_all_beside-requires-clause-jobs : goal.run_all_beside-requires-clause-jobs
 run_all_beside-requires-clause-jobs g c l b k d within =
-    let parts = c.in_ok-jobs.ensures.cells in
+    let parts = (subst (AreOf c.in_ok-jobs.jobs.items) c.job_from-whole.ensures
+    c.in_ok-jobs.ensures.parts).0 in
     jobs-can-run 0 c.in_ok-jobs.jobs.items parts.beside
     (omega (arith, c.requires.cells, ap length parts.cells_are))
     (subst (All (λ steps. steps < 2 ^ 27)) (sym parts.slices_are) c.requires.few)
@@ -48,7 +55,8 @@ join_all-requires-clause-seats g c =
     let all = c.in_ok-shards.shards.items in
     let seat = c.genotypes.inside.seat in
     subst (λ bank. All (λ (one : Finished). one.seat.bank ≡ bank) all) c.genotypes.invariant.0
-    (seats-finished round seat jobs all (seats-shared seat jobs c.in_ok-jobs.ensures.seats)
+    (seats-finished round seat jobs all (seats-shared seat jobs
+    (subst (AreOf jobs) c.job_from-whole.ensures c.in_ok-jobs.ensures.parts).1)
     (each-finished round jobs all c.in_ok-shards.ensures.finished))
 
 pub join_all-requires-clause-numbers : goal.join_all-requires-clause-numbers
