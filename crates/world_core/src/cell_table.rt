@@ -146,7 +146,7 @@ fn empty_cells<T: Drop>(alloc: Global, count: u32) -> Result<Vec<Option<T>>, Mem
 {
     let mut cells = Vec::with_capacity(alloc, count as usize)?;
     for _ in 0..count {
-        cells.push(None)?;
+        cells.push_reserved(None);
     }
     Ok(cells)
 }

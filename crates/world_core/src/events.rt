@@ -63,11 +63,10 @@ fn apply_event<R: Wait>(
         ≡ after_what (values_of config.now) (scene_in scene.old) nth (what_value what.now)) }
     ensures text { OnOk result (text.new.items
         ≡ text.old.items ++ lines_text (what_lines (scene_in scene.old) (what_value what.now))) }
-    ensures size { OnOk result (length scene.new.cells ≡ length scene.old.cells) }
-    ensures everyone { OnOk result (length scene.new.everyone ≤ length scene.old.everyone + 1) }
-    ensures first { OnOk result (scene.new.first ≡ scene.old.first) }
-    ensures bank { OnOk result
-        (Grows scene.old.bank scene.new.bank scene.old.everyone scene.new.everyone) }
+    ensures grown { OnOk result ((length scene.new.cells ≡ length scene.old.cells)
+        × (length scene.new.everyone ≤ length scene.old.everyone + 1)
+        × (scene.new.first ≡ scene.old.first)
+        × Grows scene.old.bank scene.new.bank scene.old.everyone scene.new.everyone) }
 {
     match what {
         What::Inject { cell, genome } => inject(rt, alloc, config, scene, nth, *cell, genome, text),
@@ -96,11 +95,10 @@ fn inject<R: Wait>(
     ensures text { OnOk result (text.new.items
         ≡ text.old.items ++ lines_text
         (what_lines (scene_in scene.old) (inject cell (letters genome.now)))) }
-    ensures size { OnOk result (length scene.new.cells ≡ length scene.old.cells) }
-    ensures everyone { OnOk result (length scene.new.everyone ≡ length scene.old.everyone + 1) }
-    ensures first { OnOk result (scene.new.first ≡ scene.old.first) }
-    ensures bank { OnOk result
-        (Grows scene.old.bank scene.new.bank scene.old.everyone scene.new.everyone) }
+    ensures grown { OnOk result ((length scene.new.cells ≡ length scene.old.cells)
+        × (length scene.new.everyone ≡ length scene.old.everyone + 1)
+        × (scene.new.first ≡ scene.old.first)
+        × Grows scene.old.bank scene.new.bank scene.old.everyone scene.new.everyone) }
 {
     genotypes_are_what_was_interned();
     tell_injection(scene, cell, genome, text)?;
@@ -132,10 +130,9 @@ fn clear(scene: &mut Scene, first: u32, last: u32, text: &mut Vec<u8>) -> Result
         ≡ with_deaths (scene_in scene.old) (cells_from first last)) }
     ensures text { OnOk result (text.new.items
         ≡ text.old.items ++ lines_text (what_lines (scene_in scene.old) (clear first last))) }
-    ensures size { OnOk result (length scene.new.cells ≡ length scene.old.cells) }
-    ensures everyone { OnOk result (scene.new.everyone ≡ scene.old.everyone) }
-    ensures first { OnOk result (scene.new.first ≡ scene.old.first) }
-    ensures bank { OnOk result (scene.new.bank ≡ scene.old.bank) }
+    ensures kept { OnOk result ((length scene.new.cells ≡ length scene.old.cells)
+        × (scene.new.everyone ≡ scene.old.everyone) × (scene.new.first ≡ scene.old.first)
+        × (scene.new.bank ≡ scene.old.bank)) }
 {
     for cell in first..last + 1 {
         tell_clearing(scene, cell, text)?;

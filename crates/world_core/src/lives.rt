@@ -6,6 +6,7 @@ ghost use Rattle.world_core.specs.Endings.{round_of};
 ghost use Rattle.world_core.specs.Population.{CanCountChange, CountsChange, IsRenewed, merit_or_zero};
 
 use crate::settings::settings_at;
+use crate::sharding::both;
 use cell_shards::{Round, Standing};
 use census::Census;
 use merit_slices::share;
@@ -39,8 +40,8 @@ pub(crate) fn slices_by(
     ensures total { IfOk result (λ slices. sum slices.items ≤ 65536000) }
     ensures length { IfOk result (λ slices. length slices.items ≡ length standings.now) }
 {
-    let merits = merits_of(alloc, standings)?;
-    let mut slices = vec![in alloc; 0; merits.len()]?;
+    let slices = vec![in alloc; 0; standings.len()];
+    let (merits, mut slices) = both(merits_of(alloc, standings), slices)?;
     share(&merits, config.average_slices, &mut slices);
     Ok(slices)
 }
@@ -51,7 +52,7 @@ fn merits_of(alloc: Global, standings: &[Option<Standing>]) -> Result<Vec<u64>, 
 {
     let mut merits = Vec::with_capacity(alloc, standings.len())?;
     for standing in standings {
-        merits.push(merit_in(*standing))?;
+        merits.push_reserved(merit_in(*standing));
     }
     Ok(merits)
 }

@@ -22,7 +22,7 @@ pub(crate) fn loads_of(alloc: Global, slices: &[u64]) -> Result<Vec<u64>, AllocE
 {
     let mut loads = Vec::with_capacity(alloc, slices.len())?;
     for steps in slices {
-        loads.push(load(*steps))?;
+        loads.push_reserved(load(*steps));
     }
     Ok(loads)
 }

@@ -27,10 +27,12 @@ loop-cell-preserved c =
     record {
       scene = rw next at scene;
       text = rw next at text;
-      size = turn.size ∙ before.size;
-      everyone = turn.everyone ∙ before.everyone;
-      first = turn.first ∙ before.first;
-      bank = turn.bank ∙ before.bank;
+      kept = (
+        turn.size ∙ before.kept.0,
+        turn.everyone ∙ before.kept.1,
+        turn.first ∙ before.kept.2,
+        turn.bank ∙ before.kept.3,
+      );
     }
 
 pub returns-clause-scene : goal.returns-clause-scene

@@ -11,8 +11,7 @@ invariant-loop-cell l = record {
       ++ lines_text (filter_map (λ line. line)
       (scan with_death cleared_line (scene_in l.fn.scene)
       (take (l.cell - l.first) (cells_from l.first l.last))));
-  size : length l.scene.cells ≡ length l.fn.scene.cells;
-  everyone : l.scene.everyone ≡ l.fn.scene.everyone;
-  first : l.scene.first ≡ l.fn.scene.first;
-  bank : l.scene.bank ≡ l.fn.scene.bank;
+  kept : (length l.scene.cells ≡ length l.fn.scene.cells)
+      × (l.scene.everyone ≡ l.fn.scene.everyone) × (l.scene.first ≡ l.fn.scene.first)
+      × (l.scene.bank ≡ l.fn.scene.bank);
 }
