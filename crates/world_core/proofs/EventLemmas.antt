@@ -1,8 +1,7 @@
 -- The events of an update, one after another.
-use Rattle.std.proofs.Common.{◌≡◌, refl, sym, ◌∙◌, ap, ℕ, ◌+◌, ◌-◌, ◌*◌, ◌<◌, ◌≤◌, true, false, ◌&&◌, nat_le, List, [], ◌∷◌, ◌++◌, length, drop, get_or, fold, filter, append_assoc, arith}
-use Rattle.std.specs.Prelude.{◌==◌, IsErrAnd, OnOk, Result, Ok, Err}
-use Rattle.world_core.proofs.Prelude.{scan, flat_map, enumerate_from, leb-true, and_parts, at_drop_more, drop_all, get_or-map, length-map, flat_map-append, All-get_or, lines_text, line_text, Event, frame_of, Frame, EventValue, WhatValue, inject, clear, rate, event_value, event_values, event_fits, what_fits, what_value, values_of, ConfigValues, event_lines, lines_of_event, what_lines, Scene, events_at, after_event, after_events, after_what, CanHappen}
-use Rattle.std.proofs.lemmas.List.{append-nil}
+use Rattle.std.proofs.Common.{◌≡◌, refl, sym, ◌∙◌, ap, ℕ, ◌+◌, ◌-◌, ◌*◌, ◌<◌, ◌≤◌, true, false, ◌&&◌, nat_le, List, ◌∷◌, ◌++◌, length, drop, get_or, fold, filter, append_assoc, arith}
+use Rattle.std.specs.Prelude.{◌==◌}
+use Rattle.world_core.proofs.Prelude.{scan, flat_map, enumerate_from, leb-true, and_parts, at_drop_more, get_or-map, length-map, flat_map-append, All-get_or, lines_text, line_text, Event, frame_of, Frame, EventValue, WhatValue, inject, clear, rate, event_value, event_values, event_fits, what_fits, what_value, values_of, ConfigValues, event_lines, lines_of_event, what_lines, Scene, events_at, after_event, after_events, after_what, CanHappen}
 use Rattle.std.proofs.lemmas.Nat.{mul-le}
 use Rattle.world_config.specs.declared.config.Config.{Config}
 
@@ -117,18 +116,3 @@ pub events-few : (config : Config) (events : List Event) → events ≡ config.e
     → length events ≤ 1000
 events-few config events same =
     omega (arith, ap length same, length-map config.event event_value, config.event_bounds.number)
-
--- where a call failed, nothing is said of what it leaves
-pub stopped : {A E : Type 0} (P : Type 0) (Q : E → Type 0) (r : Result A E) → IsErrAnd r Q
-    → OnOk r P
-stopped P Q (Ok done) failed = absurd failed
-stopped P Q (Err stop) failed = tt
-
--- behind the last event
-pub way-end : (config : Config) (update i : ℕ) (first scene : Scene) (start text : List ℕ)
-    → length config.event ≤ i → IsOnTheWay config update i first scene start text
-    → (scene ≡ after_events (values_of config) first)
-    × (text ≡ start ++ lines_text (event_lines (values_of config) first))
-way-end config update i first scene start text past way =
-    let none : drop i config.event ≡ [] = drop_all i config.event past in
-    (rw none at way.leads, sym (append-nil text) ∙ (rw none at way.tells))

@@ -52,7 +52,7 @@ fn merits_of(alloc: Global, standings: &[Option<Standing>]) -> Result<Vec<u64>, 
 {
     let mut merits = Vec::with_capacity(alloc, standings.len())?;
     for standing in standings {
-        merits.push_reserved(merit_in(*standing));
+        merits.push(merit_in(*standing))?;
     }
     Ok(merits)
 }

@@ -1,9 +1,8 @@
-use Rattle.std.proofs.Common.{◌≡◌, ◌++◌, ◌∙◌, refl, ap, ◌<◌, length, get_or, eq-eqb, arith}
-use Rattle.world_core.proofs.Prelude.{ne_eqb, lines_text, event_lines, values_of, after_events, SceneValue, scene_in}
+use Rattle.std.proofs.Common.{◌∙◌, refl, ap, ◌<◌, length, get_or, eq-eqb, arith}
+use Rattle.world_core.proofs.Prelude.{ne_eqb, SceneValue, scene_in}
 use Rattle.world_core.proofs.GrowLemmas.{Grows_on, Grows_same}
-use Rattle.world_core.proofs.EventLemmas.{way-start, way-past, way-on, way-end, event-can_happen, events-few, stopped}
+use Rattle.world_core.proofs.EventLemmas.{way-start, way-past, way-on, event-can_happen, events-few}
 use Rattle.world_core.proofs.events.apply_events.Goals.{then-event-update+in_ok-apply_event, else-event-update}
-use Rattle.world_core.proofs.events.apply_events.Given as given
 use Rattle.world_core.proofs.events.apply_events.Goals as goal
 
 pub loop-at-init : goal.loop-at-init
@@ -73,8 +72,7 @@ offset_bounds-event-items-at g c =
     omega (arith, c.loop-at-test.true, c.as_slice-event-items.type_inv)
 
 pub bounds-event-items-at : goal.bounds-event-items-at
-bounds-event-items-at g c =
-    c.loop-at-test.true
+bounds-event-items-at g c = c.loop-at-test.true
 
 pub overflow_cast-at : goal.overflow_cast-at
 overflow_cast-at g c =
@@ -88,30 +86,6 @@ pub apply_event-requires-clause-nth : goal.apply_event-requires-clause-nth
 apply_event-requires-clause-nth g c =
     omega (arith, c.loop-at-test.true, events-few c.args.config.now _ c.as_slice-event-items.ensures)
 
-pub returns-in_err-apply_event-clause-scene : goal.returns-in_err-apply_event-clause-scene
-returns-in_err-apply_event-clause-scene g c =
-    stopped _ _ c.from_residual.result c.from_residual.ensures.1
-
-pub returns-in_err-apply_event-clause-text : goal.returns-in_err-apply_event-clause-text
-returns-in_err-apply_event-clause-text g c =
-    stopped _ _ c.from_residual.result c.from_residual.ensures.1
-
-pub returns-in_err-apply_event-clause-size : goal.returns-in_err-apply_event-clause-size
-returns-in_err-apply_event-clause-size g c =
-    stopped _ _ c.from_residual.result c.from_residual.ensures.1
-
-pub returns-in_err-apply_event-clause-everyone : goal.returns-in_err-apply_event-clause-everyone
-returns-in_err-apply_event-clause-everyone g c =
-    stopped _ _ c.from_residual.result c.from_residual.ensures.1
-
-pub returns-in_err-apply_event-clause-first : goal.returns-in_err-apply_event-clause-first
-returns-in_err-apply_event-clause-first g c =
-    stopped _ _ c.from_residual.result c.from_residual.ensures.1
-
-pub returns-in_err-apply_event-clause-bank : goal.returns-in_err-apply_event-clause-bank
-returns-in_err-apply_event-clause-bank g c =
-    stopped _ _ c.from_residual.result c.from_residual.ensures.1
-
 pub returns-clause-everyone : goal.returns-clause-everyone
 returns-clause-everyone g c = omega (
   arith,
@@ -119,30 +93,3 @@ returns-clause-everyone g c = omega (
   c.loop-at.auto.at-end,
   events-few c.args.config.now _ c.as_slice-event-items.ensures,
 )
-
--- all events are behind
-ended : (g : given.Over) (c : goal.After-loop-at g)
-    → (scene_in c.loop-at.scene
-    ≡ after_events (values_of c.args.config.now) (scene_in c.args.scene.now))
-    × (c.loop-at.text.items ≡ c.args.text.now.items ++ lines_text (event_lines
-    (values_of c.args.config.now) (scene_in c.args.scene.now)))
-ended g c =
-    way-end c.args.config.now c.scene.inside.update c.loop-at.at (scene_in c.args.scene.now)
-    (scene_in c.loop-at.scene) c.args.text.now.items c.loop-at.text.items
-    (omega (arith, c.loop-at-test.false, ap length c.as_slice-event-items.ensures))
-    c.loop-at.invariant.way
-
-pub returns-clause-scene : goal.returns-clause-scene
-returns-clause-scene g c = (ended g c).0
-
-pub returns-clause-text : goal.returns-clause-text
-returns-clause-text g c = (ended g c).1
-
-pub returns-clause-size : goal.returns-clause-size
-returns-clause-size g c = c.loop-at.invariant.size
-
-pub returns-clause-first : goal.returns-clause-first
-returns-clause-first g c = c.loop-at.invariant.first
-
-pub returns-clause-bank : goal.returns-clause-bank
-returns-clause-bank g c = c.loop-at.invariant.bank
