@@ -10,7 +10,7 @@ use std::sync::Wait;
 use std::thread::Threads;
 use world_config::Config;
 use world_core::{RunningWorld, World};
-use written_texts::NoSink;
+use written_texts::{NoSink, kept};
 
 /// Puts the log's first line.
 pub fn write_first<O: Sink>(alloc: Global, world: &World, out: &mut O) -> Result<(), SinkStop>
@@ -116,15 +116,11 @@ fn write_counted<R: Threads + Wait + Sync, O: Sink, G: Gate + Sync>(
 {
     let updates = config.updates;
     let world = World::found(rt, alloc, config, workers)?;
-    write_first(alloc, &world, out)?;
+    let first = write_first(alloc, &world, out);
+    let world = kept(world, first)?;
     let (world, sums) = write_updates(rt, alloc, world, updates, out, gate)?;
-    match write_last(alloc, &world, out) {
-        Ok(()) => Ok((world, sums)),
-        Err(stop) => {
-            drop(world);
-            Err(stop)
-        }
-    }
+    let last = write_last(alloc, &world, out);
+    kept((world, sums), last)
 }
 
 /// Runs a configuration to its end, and writes the log.

@@ -14,6 +14,7 @@ use std::sync::{Arc, Wait};
 use std::thread::Threads;
 use world_config::Config;
 use world_core::{World, WorldPicture};
+use written_texts::kept;
 
 /// How far a run has come: its world, the world's picture, which was published last, and a note of
 /// it. The first picture has no note.
@@ -133,15 +134,11 @@ fn publish_log<R: Threads + Wait + Sync, O: Sink, G: Gate + Sync>(
     ensures text { WritesAll (O.seen out.old) (O.seen out.new)
         (run_text (values_of config.now)) result }
 {
-    write_first(alloc, &progress.world, out)?;
+    let first = write_first(alloc, &progress.world, out);
+    let progress = kept(progress, first)?;
     let progress = publish_updates(rt, alloc, progress, config.updates, publisher, out, gate)?;
-    match write_last(alloc, &progress.world, out) {
-        Ok(()) => Ok(progress),
-        Err(stop) => {
-            drop(progress);
-            Err(stop)
-        }
-    }
+    let last = write_last(alloc, &progress.world, out);
+    kept(progress, last)
 }
 
 /// The same, of a run that was begun. It takes what was begun, and tells when the run has ended.
