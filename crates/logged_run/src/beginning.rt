@@ -19,6 +19,19 @@ pub struct Beginning {
     pub observer: Observer<WorldPicture>,
 }
 
+impl Beginning {
+    /// Nothing more is published of the run, and what is left of it is let go.
+    pub fn end<R: Wait>(self, rt: &R) {
+        let Beginning {
+            config: _config,
+            progress: _progress,
+            publisher,
+            observer: _observer,
+        } = self;
+        publisher.end(rt);
+    }
+}
+
 /// A new world, and its picture.
 fn found_pictured<R: Wait>(
     rt: &R,

@@ -1,8 +1,8 @@
 // A run with a watcher beside it.
 ghost use Rattle.std.specs.Prelude.{◌≤◌};
 ghost use Rattle.logged_run.specs.Prelude.{values_of, change};
-ghost use Rattle.logged_run.specs.Publishing.{IsBegun, RunsToEnd};
-ghost use Rattle.logged_run.specs.Watching.{BeginsAs, Watches};
+ghost use Rattle.logged_run.specs.Publishing.{IsBeginning, IsBegun, RunsToEnd};
+ghost use Rattle.logged_run.specs.Watching.{Watches};
 ghost use Rattle.logged_run.specs.WatchedRun.{EndsWatched, IsAtEnd, RunsWatched};
 
 use crate::beginning::{Beginning, begin};
@@ -10,7 +10,7 @@ use crate::outcomes::Outcomes;
 use crate::publishing::{Progress, publish_run};
 use crate::watching::{write_last_picture, write_looks};
 use avida_port::{Gate, Sink, SinkStop};
-use published_world::{Observer, Publisher};
+use published_world::Observer;
 use std::alloc::Global;
 use std::sync::Wait;
 use std::sync::atomic::AtomicBool;
@@ -24,31 +24,34 @@ use world_core::{World, WorldPicture};
 fn side_by_side<R: Threads + Wait + Clock + Sync, O: Sink, W: Sink + Send, G: Gate + Sync>(
     rt: &R,
     alloc: Global,
-    config: &Config,
-    begun: &mut Option<Progress>,
-    publisher: &mut Publisher<WorldPicture>,
-    observer: &mut Observer<WorldPicture>,
+    begun: &mut Beginning,
     looks: u32,
     out: &mut O,
     watch: &mut W,
     gate: &G,
 ) -> Outcomes
-    requires begun { IsBegun (values_of config.now) publisher.old begun.old }
-    requires observer { BeginsAs (values_of config.now) observer.old }
-    ensures watched { Watches looks (values_of config.now) observer.new
+    requires begun { IsBeginning (values_of begun.old.config.value) begun.old }
+    ensures watched { Watches looks (values_of begun.old.config.value) begun.new.observer
         (W.seen watch.old) (W.seen watch.new) result.watched }
-    ensures ran { RunsToEnd (values_of config.now) publisher.new
+    ensures ran { RunsToEnd (values_of begun.old.config.value) begun.new.publisher
         (O.seen out.old) (O.seen out.new) result.ran }
 {
+    let Beginning {
+        config,
+        progress,
+        publisher,
+        observer,
+    } = begun;
+    let config: &Config = config;
     let ended = AtomicBool::new(false);
     let (watched, ran) = join_mut(
         rt,
         &mut || write_looks(rt, alloc, config, observer, looks, &ended, watch),
         &mut || -> Result<Progress, SinkStop>
-            requires { IsBegun (values_of config.now) publisher.now begun.now }
+            requires { IsBegun (values_of config.now) publisher.now progress.now }
             ensures { RunsToEnd (values_of config.entry.now) publisher.exit.now
                 (O.seen out.entry.now) (O.seen out.exit.now) result }
-        { publish_run(rt, alloc, config, begun, publisher, &ended, out, gate) },
+        { publish_run(rt, alloc, config, progress, publisher, &ended, out, gate) },
     );
     Outcomes::of(ran, watched)
 }
@@ -82,25 +85,19 @@ pub(crate) fn end_watched<W: Sink>(
 fn run_beside<R: Threads + Wait + Clock + Sync, O: Sink, W: Sink + Send, G: Gate + Sync>(
     rt: &R,
     alloc: Global,
-    config: &Config,
-    begun: &mut Option<Progress>,
-    publisher: &mut Publisher<WorldPicture>,
-    observer: &mut Observer<WorldPicture>,
+    begun: &mut Beginning,
     looks: u32,
     out: &mut O,
     watch: &mut W,
     gate: &G,
 ) -> Result<World, SinkStop>
-    requires begun { IsBegun (values_of config.now) publisher.old begun.old }
-    requires observer { BeginsAs (values_of config.now) observer.old }
-    ensures { RunsWatched looks (values_of config.now)
+    requires begun { IsBeginning (values_of begun.old.config.value) begun.old }
+    ensures { RunsWatched looks (values_of begun.old.config.value)
         (change (O.seen out.old) (O.seen out.new)) (change (W.seen watch.old) (W.seen watch.new))
         result }
 {
-    let outcomes = side_by_side(
-        rt, alloc, config, begun, publisher, observer, looks, out, watch, gate,
-    );
-    outcomes.end(alloc, observer, watch)
+    let outcomes = side_by_side(rt, alloc, begun, looks, out, watch, gate);
+    outcomes.end(alloc, &mut begun.observer, watch)
 }
 
 /// Runs a configuration to its end and writes the log, with a watcher beside the run.
@@ -119,24 +116,8 @@ pub fn write_watched<R: Threads + Wait + Clock + Sync, O: Sink, W: Sink + Send, 
         (change (O.seen out.old) (O.seen out.new)) (change (W.seen watch.old) (W.seen watch.new))
         result }
 {
-    let Beginning {
-        config,
-        mut progress,
-        mut publisher,
-        mut observer,
-    } = begin(rt, alloc, config, workers)?;
-    let run = run_beside(
-        rt,
-        alloc,
-        &config,
-        &mut progress,
-        &mut publisher,
-        &mut observer,
-        looks,
-        out,
-        watch,
-        gate,
-    );
-    publisher.end(rt);
+    let mut begun = begin(rt, alloc, config, workers)?;
+    let run = run_beside(rt, alloc, &mut begun, looks, out, watch, gate);
+    begun.end(rt);
     run
 }
