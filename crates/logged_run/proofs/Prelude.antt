@@ -13,6 +13,6 @@ pub use Rattle.std.proofs.lemmas.List.{get_or_append_left, get_or_push, length_p
 pub use Rattle.std.proofs.lemmas.Option.{slice_get-get_or, slice_get_within}
 pub use Rattle.std.proofs.lemmas.Result.{err_from_is_err_and}
 unfoldable pub use Rattle.world_rules.specs.LogText.{log_text}
-pub use Rattle.written_texts.proofs.WriteLemmas.{kept_holds, kept_writes, never_fails, nothing_written, put_ended, stopped_same, wanting_after, writes_nothing, writes_same, writes_short, writes_then}
+pub use Rattle.written_texts.proofs.WriteLemmas.{kept_holds, kept_writes, never_fails, nothing_written, put_written, stopped_same, wanting_after, writes_nothing, writes_same, writes_short, writes_then}
 pub use Rattle.written_texts.specs.SinkChanges.{Stays}
 pub use mathlib.Core.List.{IsPrefix}

@@ -46,13 +46,8 @@ pub fn write_update<R: Threads + Wait + Sync, O: Sink, G: Gate + Sync>(
         (update_text world.config (world.update + 1)) result }
 {
     let (next, text) = world.advance(rt, alloc, gate)?;
-    match out.put(&text) {
-        Ok(()) => Ok((next, text.len())),
-        Err(stop) => {
-            drop(next);
-            Err(stop)
-        }
-    }
+    let put = out.put(&text);
+    kept((next, text.len()), put)
 }
 
 /// One update, whose text is put whole, and the sums with what it counts.

@@ -18,6 +18,7 @@ use std::thread::{Threads, join_mut};
 use std::time::Clock;
 use world_config::Config;
 use world_core::{World, WorldPicture};
+use written_texts::kept;
 
 /// The watcher in a thread of its own, and the runner in this one. Where no thread can be made the
 /// watcher comes after the runner.
@@ -72,13 +73,8 @@ pub(crate) fn end_watched<W: Sink>(
         picture,
         note,
     } = progress;
-    match write_last_picture(alloc, observer, picture, note, newest, watch) {
-        Ok(()) => Ok(world),
-        Err(stop) => {
-            drop(world);
-            Err(stop)
-        }
-    }
+    let written = write_last_picture(alloc, observer, picture, note, newest, watch);
+    kept(world, written)
 }
 
 /// Runs what was begun to its end beside its watcher, and then writes the line of the last picture.

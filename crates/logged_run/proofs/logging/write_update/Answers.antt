@@ -1,5 +1,5 @@
-use Rattle.std.proofs.Common.{◌≡◌, ◌+◌, ◌∙◌, ap, arith, length}
-use Rattle.logged_run.proofs.Prelude.{err_from_is_err_and, update_text, nothing_written, put_ended}
+use Rattle.std.proofs.Common.{◌≡◌, ◌+◌, ◌∙◌, ap, arith, length, ℕ}
+use Rattle.logged_run.proofs.Prelude.{err_from_is_err_and, WorldValue, IsWorldAt, update_text, kept_holds, kept_writes, nothing_written, put_written}
 use Rattle.logged_run.proofs.logging.write_update.Goals as goal
 
 pub returns-in_err-next-clause-text : goal.returns-in_err-next-clause-text
@@ -10,15 +10,20 @@ returns-in_err-next-clause-text g c =
 
 pub returns-clause-text : goal.returns-clause-text
 returns-clause-text g c =
-    put_ended (update_text c.args.world.config (c.args.world.update + 1)) c.in-Err.ensures.puts
-    (c.deref.ensures.value ∙ c.in_ok-next.ensures.text)
+    let same = c.deref.ensures.value ∙ c.in_ok-next.ensures.text in
+    rw same at (kept_writes c.kept.ensures.ok c.kept.ensures.err (put_written c.put-put.ensures.puts))
 
-pub returns-in-Ok-clause-world : goal.returns-in-Ok-clause-world
-returns-in-Ok-clause-world g c =
-    record { config = c.in_ok-next.ensures.config; update = c.in_ok-next.ensures.update }
+pub returns-clause-world : goal.returns-clause-world
+returns-clause-world g c =
+    kept_holds (λ (next : WorldValue × ℕ). IsWorldAt c.args.world.config (c.args.world.update + 1)
+    next.0) (c.in_ok-next.next, c.len.result) c.kept.result c.kept.ensures.value
+    (record { config = c.in_ok-next.ensures.config; update = c.in_ok-next.ensures.update })
 
-pub returns-in-Ok-clause-bytes : goal.returns-in-Ok-clause-bytes
-returns-in-Ok-clause-bytes g c =
+pub returns-clause-bytes : goal.returns-clause-bytes
+returns-clause-bytes g c =
     let long : c.len.result ≡ length c.in_ok-next.text.items =
     omega (arith, c.len.ensures, c.in_ok-next.text.ok.0) in
-    long ∙ ap length c.in_ok-next.ensures.text
+    kept_holds (λ (next : WorldValue × ℕ).
+    next.1 ≡ length (update_text c.args.world.config (c.args.world.update + 1)))
+    (c.in_ok-next.next, c.len.result) c.kept.result c.kept.ensures.value
+    (long ∙ ap length c.in_ok-next.ensures.text)
