@@ -23,12 +23,13 @@ impl Beginning {
     /// Nothing more is published of the run, and what is left of it is let go.
     pub fn end<R: Wait>(self, rt: &R) {
         let Beginning {
-            config: _config,
-            progress: _progress,
+            config,
+            progress,
             publisher,
-            observer: _observer,
+            observer,
         } = self;
         publisher.end(rt);
+        drop((observer, progress, config));
     }
 }
 

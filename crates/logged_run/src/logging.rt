@@ -17,8 +17,7 @@ pub fn write_first<O: Sink>(alloc: Global, world: &World, out: &mut O) -> Result
     ensures { WritesAll (O.seen out.old) (O.seen out.new) (head_text world.now.config) result }
 {
     let line = world.first_line(alloc)?;
-    out.put(&line)?;
-    Ok(())
+    out.put(&line)
 }
 
 /// Puts the log's last line.
@@ -26,8 +25,7 @@ pub fn write_last<O: Sink>(alloc: Global, world: &World, out: &mut O) -> Result<
     ensures { WritesAll (O.seen out.old) (O.seen out.new) (end_text world.now.update) result }
 {
     let line = world.last_line(alloc)?;
-    out.put(&line)?;
-    Ok(())
+    out.put(&line)
 }
 
 /// One update, whose text is put whole, and the number of its bytes.

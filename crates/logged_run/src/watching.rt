@@ -33,8 +33,7 @@ fn write_line<W: Sink>(alloc: Global, picture: &WorldPicture, sink: &mut W) -> R
 {
     let mut line = Vec::new(alloc);
     picture_line(picture, &mut line)?;
-    sink.put(&line)?;
-    Ok(())
+    sink.put(&line)
 }
 
 /// Writes the line of a picture where it is news, and gives the newest update that was written.
