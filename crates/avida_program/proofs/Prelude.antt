@@ -45,4 +45,4 @@ pub use Rattle.world_rules.specs.WorldRun.{residents_of_world}
 unfoldable pub use Rattle.world_rules.specs.WorldRun.{world_after}
 pub use Rattle.written_texts.proofs.GrowingTexts.{Grows, part_stopped, part_written}
 pub use Rattle.written_texts.proofs.PieceLemmas.{writes_held, writes_short, writes_then}
-pub use Rattle.written_texts.proofs.WriteLemmas.{never_fails, nothing_written, put_ended, put_written, stopped_same, writes_nothing, writes_same}
+pub use Rattle.written_texts.proofs.WriteLemmas.{kept_holds, kept_writes, never_fails, nothing_written, put_ended, put_written, stopped_same, writes_nothing, writes_same}

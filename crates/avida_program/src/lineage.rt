@@ -21,7 +21,7 @@ use std::sync::Wait;
 use std::thread::Threads;
 use world_config::Config;
 use world_core::World;
-use written_texts::{Piece, write_text};
+use written_texts::{Piece, kept, write_text};
 
 fn add_parent(text: &mut Vec<u8>, parent: Option<u64>) -> Result<(), Memory>
     ensures { OnOk result (text.new.items ≡ text.old.items ++ parent_text parent) }
@@ -127,8 +127,8 @@ fn run_and_write<R: Threads + Wait + Sync, O: Sink, G: Gate + Sync>(
         (path_text (values_of config) cell) result }
 {
     let (world, _) = run_counted(rt, alloc, config, workers, gate)?;
-    write_descent(alloc, &world, cell, out)?;
-    Ok(world)
+    let written = write_descent(alloc, &world, cell, out);
+    kept(world, written)
 }
 
 /// Reads a configuration, runs it to its end, and writes the line of descent of the organism in the

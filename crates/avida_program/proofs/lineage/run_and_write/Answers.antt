@@ -1,5 +1,5 @@
 use Rattle.std.proofs.Common.{◌≡◌, ◌∙◌, ap, sym, ℕ}
-use Rattle.avida_program.proofs.Prelude.{err_from_is_err_and, values_of, ConfigValues, WorldValue, world_in, world_after, nothing_written, stopped_same, writes_same, IsFinalWorld, path_lines, path_text}
+use Rattle.avida_program.proofs.Prelude.{err_from_is_err_and, values_of, ConfigValues, WorldValue, world_in, world_after, nothing_written, kept_holds, kept_writes, IsFinalWorld, path_lines, path_text}
 use Rattle.world_rules.specs.Descent.{line_in}
 use Rattle.avida_program.proofs.lineage.run_and_write.Goals as goal
 
@@ -16,19 +16,13 @@ returns-in_err-world-clause-text g c =
     rw (p.1, p.2) (nothing_written (g.O.Sink.seen c.args.out.now)
     (path_text (values_of c.args.config) c.args.cell))
 
-pub returns-in_err-write_descent-clause-text : goal.returns-in_err-write_descent-clause-text
-returns-in_err-write_descent-clause-text g c =
-    let p = err_from_is_err_and c.from_residual-in_err-write_descent.result
-    c.from_residual-in_err-write_descent.ensures.1 in
-    let same = text_is (values_of c.args.config) c.args.cell c.in_ok-world.world
-    c.in_ok-world.ensures.final in
-    rw (p.1, p.2, sym same) (stopped_same c.in_err-write_descent.ensures)
-
 pub returns-clause-world : goal.returns-clause-world
-returns-clause-world g c = c.in_ok-world.ensures.final
+returns-clause-world g c =
+    kept_holds (IsFinalWorld (values_of c.args.config)) c.in_ok-world.world c.kept.result
+    c.kept.ensures.value c.in_ok-world.ensures.final
 
 pub returns-clause-text : goal.returns-clause-text
 returns-clause-text g c =
     let same = text_is (values_of c.args.config) c.args.cell c.in_ok-world.world
     c.in_ok-world.ensures.final in
-    rw (sym same) (writes_same c.in_ok-write_descent.ensures)
+    rw (sym same) (kept_writes c.kept.ensures.ok c.kept.ensures.err c.write_descent-written.ensures)
