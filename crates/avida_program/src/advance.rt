@@ -49,7 +49,9 @@ fn advance_and_write<R: Threads + Wait + Sync, O: Sink, G: Gate + Sync>(
     ensures { WritesAll (O.seen out.old) (O.seen out.new) (advanced_text state more) result }
 {
     let after = pass_updates(rt, alloc, state, more, gate)?;
-    write_state(alloc, &after, out)
+    let written = write_state(alloc, &after, out);
+    drop(after);
+    written
 }
 
 /// Reads a saved world, and writes the one that is there so many updates later.

@@ -1,6 +1,6 @@
 // The command `bench`.
 ghost use Rattle.std.specs.Prelude.{◌≡◌, ◌≤◌, ◌<◌, ◌+◌, ◌^◌, ◌++◌, IfOk, OnOk, codes, decimal, length};
-ghost use Rattle.avida_program.specs.Prelude.{SinkState, SourceState, Count, line_text, values_of, end_text, head_text, change, unchanged, IsEndOf, IsFinalWorld};
+ghost use Rattle.avida_program.specs.Prelude.{SinkState, SourceState, Count, line_text, values_of, end_text, head_text, change, unchanged, IsEndOf, IsFinalWorld, WritesAll};
 ghost use Rattle.command_line.specs.declared.command.Command.TheVariants as command;
 ghost use Rattle.avida_program.specs.Output.{bench_config, bench_text, sums_text};
 ghost use Rattle.avida_program.specs.Commands.{CarriesOut};
@@ -8,7 +8,7 @@ ghost use Rattle.avida_program.specs.Commands.{CarriesOut};
 use crate::call_error::CallError;
 use crate::puts::put_text;
 use crate::run::leave;
-use avida_port::{Gate, Memory, Sink};
+use avida_port::{Gate, Memory, Sink, SinkStop};
 use command_line::Bench;
 use log_lines::{LogLine, Stats, write_line};
 use logged_run::{Sums, run_counted};
@@ -17,6 +17,7 @@ use std::sync::Wait;
 use std::thread::Threads;
 use world_config::Config;
 use world_core::World;
+use written_texts::kept;
 
 /// How many updates are run.
 const UPDATES: u32 = 200;
@@ -69,7 +70,7 @@ fn log_bytes(alloc: Global, world: &World, updates: u128) -> Result<u128, Memory
 }
 
 /// The three lines of a run that came to this end.
-fn tell(alloc: Global, world: &World, sums: Sums) -> Result<Vec<u8>, Memory>
+fn text_of(alloc: Global, world: &World, sums: Sums) -> Result<Vec<u8>, Memory>
     requires updates { world.now.update ≤ 1000000 }
     requires end { IsEndOf world.now.config world.now sums }
     ensures { IfOk result (λ text. text.items ≡ sums_text world.now.config) }
@@ -78,38 +79,51 @@ fn tell(alloc: Global, world: &World, sums: Sums) -> Result<Vec<u8>, Memory>
     lines_of(alloc, world.stats(), sums.births, bytes)
 }
 
-/// Runs a configuration to its end, and gives the last world and the three lines.
-fn run_and_tell<R: Threads + Wait + Sync, G: Gate + Sync>(
+/// Puts the three lines of a run that came to this end.
+fn tell<O: Sink>(alloc: Global, world: &World, sums: Sums, out: &mut O) -> Result<(), SinkStop>
+    requires updates { world.now.update ≤ 1000000 }
+    requires end { IsEndOf world.now.config world.now sums }
+    ensures { WritesAll (O.seen out.old) (O.seen out.new) (sums_text world.now.config) result }
+{
+    let text = text_of(alloc, world, sums)?;
+    put_text(&text, out)
+}
+
+/// Runs a configuration to its end, puts the three lines, and gives the last world.
+fn run_and_tell<R: Threads + Wait + Sync, O: Sink, G: Gate + Sync>(
     rt: &R,
     alloc: Global,
     config: Config,
     workers: u32,
+    out: &mut O,
     gate: &G,
-) -> Result<(World, Vec<u8>), Memory>
+) -> Result<World, SinkStop>
     requires { (1 ≤ workers) × (workers ≤ 64) }
-    ensures world { IfOk result (λ ran. IsFinalWorld (values_of config) ran.0) }
-    ensures text { IfOk result (λ ran. ran.1.items ≡ sums_text (values_of config)) }
+    ensures world { IfOk result (IsFinalWorld (values_of config)) }
+    ensures text { WritesAll (O.seen out.old) (O.seen out.new) (sums_text (values_of config))
+        result }
 {
     let (world, sums) = run_counted(rt, alloc, config, workers, gate)?;
-    let text = tell(alloc, &world, sums)?;
-    Ok((world, text))
+    let told = tell(alloc, &world, sums, out);
+    kept(world, told)
 }
 
-/// Runs the world of a seed, and gives its last world and the three lines.
-fn run_seed<R: Threads + Wait + Sync, G: Gate + Sync>(
+/// Runs the world of a seed, puts the three lines, and gives its last world.
+fn run_seed<R: Threads + Wait + Sync, O: Sink, G: Gate + Sync>(
     rt: &R,
     alloc: Global,
     seed: u64,
     workers: u32,
+    out: &mut O,
     gate: &G,
-) -> Result<(World, Vec<u8>), Memory>
+) -> Result<World, SinkStop>
     requires seed { seed ≤ 9223372036854775807 }
     requires workers { (1 ≤ workers) × (workers ≤ 64) }
-    ensures world { IfOk result (λ ran. IsFinalWorld (bench_config seed) ran.0) }
-    ensures text { IfOk result (λ ran. ran.1.items ≡ bench_text seed) }
+    ensures world { IfOk result (IsFinalWorld (bench_config seed)) }
+    ensures text { WritesAll (O.seen out.old) (O.seen out.new) (bench_text seed) result }
 {
     let config = config_with(alloc, seed)?;
-    run_and_tell(rt, alloc, config, workers, gate)
+    run_and_tell(rt, alloc, config, workers, out, gate)
 }
 
 /// Runs the default configuration with the seed for 200 updates, and writes what is counted after
@@ -133,8 +147,7 @@ pub fn bench<R: Threads + Wait + Sync, O: Sink, G: Gate + Sync>(
           last = change last.old last.new;
         }) result }
 {
-    let (world, text) = run_seed(rt, alloc, asked.seed, asked.workers, gate)?;
-    put_text(&text, out)?;
+    let world = run_seed(rt, alloc, asked.seed, asked.workers, out, gate)?;
     leave(last, world);
     Ok(())
 }

@@ -6,6 +6,7 @@ ghost use Rattle.avida_program.specs.Input.{resume_input_of};
 
 use crate::call_error::{CallError, ended_by};
 use crate::input::read_state_for;
+use crate::puts::put_text;
 use avida_port::{Gate, Sink, SinkStop, Source};
 use command_line::FurtherUpdates;
 use log_lines::{LogLine, write_line};
@@ -13,6 +14,7 @@ use std::alloc::Global;
 use std::sync::Wait;
 use std::thread::Threads;
 use world_core::State;
+use written_texts::kept;
 
 /// One update, whose text is put whole.
 fn write_update<R: Threads + Wait + Sync, O: Sink, G: Gate + Sync>(
@@ -27,8 +29,8 @@ fn write_update<R: Threads + Wait + Sync, O: Sink, G: Gate + Sync>(
     ensures text { WritesAll (O.seen out.old) (O.seen out.new) (next_text state) result }
 {
     let (next, text) = state.advance(rt, alloc, gate)?;
-    out.put(&text)?;
-    Ok(next)
+    let put = put_text(&text, out);
+    kept(next, put)
 }
 
 /// So many updates more, with their texts.
@@ -74,7 +76,9 @@ fn write_on<R: Threads + Wait + Sync, O: Sink, G: Gate + Sync>(
     ensures { WritesAll (O.seen out.old) (O.seen out.new) (continued_text state more) result }
 {
     let after = write_updates(rt, alloc, state, more, out, gate)?;
-    write_end(alloc, after.update(), out)
+    let updates = after.update();
+    drop(after);
+    write_end(alloc, updates, out)
 }
 
 /// Reads a saved world, and writes the log of so many further updates, with its last line.

@@ -21,7 +21,7 @@ use world_core::laws::replay_gives_living;
 pub fn leave(last: &mut Option<World>, world: World)
     ensures { last.new ≡ Some world }
 {
-    *last = Some(world);
+    drop(last.replace(world));
 }
 
 /// Reads a configuration, and writes the log of its run, which replays to the living at its end.

@@ -29,7 +29,9 @@ fn run_and_write<R: Threads + Wait + Sync, O: Sink, G: Gate + Sync>(
 {
     let (world, _) = run_counted(rt, alloc, config, workers, gate)?;
     let state = world.into_state();
-    write_state(alloc, &state, out)
+    let written = write_state(alloc, &state, out);
+    drop(state);
+    written
 }
 
 /// Reads a configuration, runs it to its end, and writes the world then as a saved world.

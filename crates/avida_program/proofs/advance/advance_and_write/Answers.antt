@@ -11,5 +11,5 @@ returns-in_err-after g c =
 pub returns : goal.returns
 returns g c =
     subst (λ (s : SavedState). WritesAll {T = Unit {0}} (g.O.Sink.seen c.args.out.now)
-    (g.O.Sink.seen c.write_state.new.out) (saved_text s) c.write_state.result)
-    c.in_ok-after.ensures c.write_state.ensures
+    (g.O.Sink.seen c.write_state-written.new.out) (saved_text s) c.write_state-written.result)
+    c.in_ok-after.ensures c.write_state-written.ensures

@@ -1,19 +1,11 @@
-use Rattle.std.proofs.Common.{◌≡◌, ℕ, List, arith, subst}
-use Rattle.std.specs.Prelude.{IfOk}
-use Rattle.avida_program.proofs.BenchLemmas.{sums_told}
+use Rattle.std.proofs.Common.{◌∙◌}
+use Rattle.avida_program.proofs.Prelude.{err_from_is_err_and, nothing_written, sums_text}
 use Rattle.avida_program.proofs.bench.tell.Goals as goal
 
-pub log_bytes-requires : goal.log_bytes-requires
-log_bytes-requires c =
-    omega (
-      arith,
-      c.requires.updates,
-      c.requires.end.final.update,
-      c.requires.end.summed.bytes.small,
-    )
+pub returns-in_err-text : goal.returns-in_err-text
+returns-in_err-text g c =
+    let p = err_from_is_err_and c.from_residual.result c.from_residual.ensures.1 in
+    rw (p.1, p.2) (nothing_written (g.O.Sink.seen c.args.out.now) (sums_text c.args.world.now.config))
 
 pub returns : goal.returns
-returns c =
-    subst (λ (lines : List ℕ). IfOk c.lines_of.result (λ text. text.items ≡ lines))
-    (sums_told c.args.world.now c.args.sums c.stats.result c.in_ok-bytes.bytes c.requires.end
-    c.stats.ensures c.in_ok-bytes.ensures) c.lines_of.ensures
+returns g c = rw (c.deref.ensures.value ∙ c.in_ok-text.ensures) at c.put_text.ensures

@@ -10,5 +10,5 @@ returns-in_err-after g c =
 pub returns : goal.returns
 returns g c =
     let so = c.in_ok-after.ensures in
-    end_written c.args.state c.in_ok-after.after c.args.more c.update.result so.text
-    c.write_end.ensures so.state c.update.ensures
+    end_written c.args.state c.in_ok-after.after c.args.more c.update-updates.result so.text
+    c.write_end.ensures so.state c.update-updates.ensures

@@ -13,5 +13,5 @@ returns g c =
     let is : c.into_state-state.result ≡ state_of (values_of c.args.config) =
     c.into_state-state.ensures ∙ ap state_of c.in_ok-world.ensures.final.config in
     subst (λ (s : SavedState). WritesAll {T = Unit {0}} (g.O.Sink.seen c.args.out.now)
-    (g.O.Sink.seen c.write_state.new.out) (saved_text s) c.write_state.result) is
-    c.write_state.ensures
+    (g.O.Sink.seen c.write_state-written.new.out) (saved_text s) c.write_state-written.result) is
+    c.write_state-written.ensures
