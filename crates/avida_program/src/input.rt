@@ -101,6 +101,7 @@ pub fn read_config_with<S: Source>(
     if cell < config.width * config.height {
         Ok(config)
     } else {
+        drop(config);
         Err(CallError::BadInput(Refusal::Cell(cell)))
     }
 }
@@ -123,6 +124,7 @@ pub fn read_config_for<S: Source>(
     if cells <= MOST_CELLS {
         Ok(config)
     } else {
+        drop(config);
         Err(CallError::BadInput(Refusal::Cells(cells)))
     }
 }
@@ -200,6 +202,7 @@ pub fn read_state_for<R: Wait, S: Source>(
     if updates <= u64::from(GREATEST_UPDATES) {
         Ok(state)
     } else {
+        drop(state);
         Err(CallError::BadInput(Refusal::Updates(updates)))
     }
 }

@@ -59,8 +59,7 @@ fn write_end<O: Sink>(alloc: Global, updates: u32, out: &mut O) -> Result<(), Si
 {
     let mut line = Vec::new(alloc);
     write_line(&LogLine::End { updates }, &mut line)?;
-    out.put(&line)?;
-    Ok(())
+    put_text(&line, out)
 }
 
 /// Writes what becomes of a saved world in so many updates more, and the last line of a log.

@@ -22,12 +22,12 @@ use written_texts::Piece;
 /// Steps an organism of age 0, and writes a line a step.
 fn write_steps<O: Sink>(
     alloc: Global,
-    mut organism: Organism,
+    organism: &mut Organism,
     steps: u32,
     out: &mut O,
 ) -> Result<(), SinkStop>
-    requires { organism.age ≡ 0 }
-    ensures { WritesAll (O.seen out.old) (O.seen out.new) (trace_lines organism steps) result }
+    requires { organism.old.age ≡ 0 }
+    ensures { WritesAll (O.seen out.old) (O.seen out.new) (trace_lines organism.old steps) result }
 {
     let mut piece = Piece::new();
     for step in 0..steps {
@@ -47,8 +47,10 @@ fn write_trace<O: Sink>(
     ensures { WritesAll (O.seen out.old) (O.seen out.new)
         (trace_text (letters genome) low steps) result }
 {
-    let organism = organism_alone(alloc, genome, Inputs::of(low))?;
-    write_steps(alloc, organism, steps, out)
+    let mut organism = organism_alone(alloc, genome, Inputs::of(low))?;
+    let written = write_steps(alloc, &mut organism, steps, out);
+    drop(organism);
+    written
 }
 
 /// Reads a genome, and writes a line for each of its organism's first steps.

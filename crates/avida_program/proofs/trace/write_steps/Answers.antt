@@ -9,8 +9,8 @@ returns-in_err-traced g c =
     let p = err_from_is_err_and c.from_residual.result c.from_residual.ensures.1 in
     let n = c.loop-step.step in
     let within : n < c.args.steps + 1 = omega arith in
-    let rest = lines_front c.args.organism n c.args.steps within in
-    rw (p.1, p.2) (wanting_within rest.0 (trace_lines c.args.organism c.args.steps)
+    let rest = lines_front c.args.organism.now n c.args.steps within in
+    rw (p.1, p.2) (wanting_within rest.0 (trace_lines c.args.organism.now c.args.steps)
     c.loop-step.invariant.written rest.1)
 
 pub returns-in_err-write_line : goal.returns-in_err-write_line
@@ -19,11 +19,11 @@ returns-in_err-write_line g c =
     c.from_residual-in_err-write_line.ensures.1 in
     let n = c.loop-step.step in
     let within : n + 1 < c.args.steps + 1 = omega arith in
-    let rest = lines_front c.args.organism (n + 1) c.args.steps within in
+    let rest = lines_front c.args.organism.now (n + 1) c.args.steps within in
     let so = c.loop-step.invariant in
-    let wrote = line_written {r = Err c.in_err-write_line.field-0.0} c.args.organism n so.written c.in_err-write_line.ensures
+    let wrote = line_written {r = Err c.in_err-write_line.field-0.0} c.args.organism.now n so.written c.in_err-write_line.ensures
     c.in_ok-traced.ensures.traced so.stepped in
-    rw (p.1, p.2) (stopped_within rest.0 (trace_lines c.args.organism c.args.steps) wrote rest.1)
+    rw (p.1, p.2) (stopped_within rest.0 (trace_lines c.args.organism.now c.args.steps) wrote rest.1)
 
 pub loop-step-preserved : goal.loop-step-preserved
 loop-step-preserved g c =
@@ -32,8 +32,8 @@ loop-step-preserved g c =
     let aged = c.in_ok-traced.ensures.age in
     record {
       age = omega (arith, aged);
-      stepped = stepped_once c.args.organism n _ _ c.in_ok-traced.ensures.steps so.stepped;
-      written = line_written c.args.organism n so.written c.in_ok-write_line.ensures
+      stepped = stepped_once c.args.organism.now n _ _ c.in_ok-traced.ensures.steps so.stepped;
+      written = line_written c.args.organism.now n so.written c.in_ok-write_line.ensures
           c.in_ok-traced.ensures.traced so.stepped;
     }
 
@@ -41,4 +41,4 @@ pub returns : goal.returns
 returns g c =
     let at_end : c.loop-step.step ≡ c.args.steps = omega (arith, c.loop-step.auto.step-end) in
     c.put_rest.ensures _ _
-    (lines_whole c.args.organism c.loop-step.step c.args.steps c.loop-step.invariant.written at_end)
+    (lines_whole c.args.organism.now c.loop-step.step c.args.steps c.loop-step.invariant.written at_end)
