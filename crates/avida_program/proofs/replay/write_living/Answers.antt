@@ -1,7 +1,15 @@
-use Rattle.std.proofs.Common.{◌∙◌, ap, ◌++◌, Err, [], ◌∷◌, map, codes, decimal}
-use Rattle.avida_program.proofs.Prelude.{err_from_is_err_and, byte_of, writes_held, writes_short, writes_then}
+use Rattle.std.proofs.Common.{◌∙◌, ap, arith, ◌++◌, Err, [], ◌∷◌, map, codes, decimal}
+use Rattle.avida_program.proofs.Prelude.{err_from_is_err_and, byte_of, resident_line, writes_held, writes_short, writes_then}
 use Rattle.lineage_log.specs.Replay.{Resident}
 use Rattle.avida_program.proofs.replay.write_living.Goals as goal
+
+pub returns-in_err-make_room : goal.returns-in_err-make_room
+returns-in_err-make_room g c =
+    let p = err_from_is_err_and c.from_residual.result c.from_residual.ensures.1 in
+    rw (p.1, p.2) (writes_short (resident_line c.args.living.now) c.in_err-make_room.ensures.writes)
+
+pub push_place-requires : goal.push_place-requires
+push_place-requires g c = omega (arith, c.in_ok-make_room.ensures.room)
 
 pub returns-in_err-write_letters : goal.returns-in_err-write_letters
 returns-in_err-write_letters g c =
