@@ -5,8 +5,8 @@ ghost use Rattle.merit_slices.specs.Slices.{slices_of};
 ghost use Rattle.world_core.specs.Endings.{round_of};
 ghost use Rattle.world_core.specs.Population.{CanCountChange, CountsChange, IsRenewed, merit_or_zero};
 
+use crate::pairs::both;
 use crate::settings::settings_at;
-use crate::sharding::both;
 use cell_shards::{Round, Standing};
 use census::Census;
 use merit_slices::share;

@@ -7,6 +7,7 @@ ghost use Rattle.world_core.specs.Sharding.{IsJoined, PartCells, ShareLoad, Shar
 
 use crate::genotypes::{Genotypes, len_after};
 use crate::loads::{loads_of, start_of};
+use crate::pairs::both;
 use avida_port::{Gate, Items, Memory};
 use cell_shards::laws::{parts_live_as_one, shards_part_the_cells};
 use cell_shards::{
@@ -261,16 +262,4 @@ fn appended<T: Drop>(front: Items<T>, back: Items<T>) -> Result<Items<T>, Memory
     let mut back = back.into_vec();
     front.append(&mut back)?;
     Ok(Items::from_vec(front))
-}
-
-/// Two values, if there was memory for both.
-pub(crate) fn both<A: Drop, B: Drop, E: Drop>(
-    one: Result<A, E>,
-    other: Result<B, E>,
-) -> Result<(A, B), E>
-    ensures { IfOk result (λ all. (one ≡ Ok all.0) × (other ≡ Ok all.1)) }
-{
-    let one = one?;
-    let other = other?;
-    Ok((one, other))
 }

@@ -129,9 +129,7 @@ fn scene_of_lives<R: Threads + Wait + Sync, G: Gate + Sync, T: Drop, F: FnOnce()
         everyone,
         mut gone,
     } = scene;
-    let (cells, lived, outcome) = cells.live(
-        rt, alloc, config, update, workers, gate, meanwhile,
-    )?;
+    let (cells, lived, outcome) = cells.live(rt, alloc, config, update, workers, gate, meanwhile)?;
     gone.clear();
     let scene = Scene {
         update: update + 1,
