@@ -40,6 +40,7 @@ import io
 import os
 import re
 import shutil
+import signal
 import stat
 import subprocess
 import sys
@@ -83,6 +84,14 @@ STANDARD_INPUT = "-"
 
 class Fault(Exception):
     """Something that the user can mend. Its text says what and where."""
+
+
+class Stopped(BaseException):
+    """A signal that ends the tool. What it began ends with it, and what it made in part is removed."""
+
+    def __init__(self, number):
+        super().__init__(number)
+        self.number = number
 
 
 class Misfit(ValueError):
@@ -858,10 +867,16 @@ def program():
     """The built program, or the one that the environment names in AVIDA."""
     if os.environ.get("AVIDA"):
         return os.environ["AVIDA"]
-    built = subprocess.run([TOP / "tools" / "built-program"], stdout=subprocess.PIPE, text=True)
+    with subprocess.Popen([TOP / "tools" / "built-program"], stdout=subprocess.PIPE, text=True) as built:
+        try:
+            path, _ = built.communicate()
+        except BaseException:
+            # A build ends by this signal with all that it began.
+            built.terminate()
+            raise
     if built.returncode:
         sys.exit(built.returncode)
-    return built.stdout.strip()
+    return path.strip()
 
 
 def answer(words, given):
@@ -894,6 +909,16 @@ def arguments(description, **how):
     return argparse.ArgumentParser(description=description, formatter_class=argparse.RawDescriptionHelpFormatter, **how)
 
 
+STOPPING = (signal.SIGINT, signal.SIGTERM, signal.SIGHUP)
+
+
+def stop(number, frame):
+    # A second signal doesn't stop the tidying up.
+    for each in STOPPING:
+        signal.signal(each, signal.SIG_IGN)
+    raise Stopped(number)
+
+
 def run(main):
     """Runs a tool, and says in one line what the user can mend."""
     # This module alone can be copied elsewhere, and then has no other beside it.
@@ -901,6 +926,10 @@ def run(main):
 
     Progress.tool = Path(sys.argv[0]).name
     sys.stderr = sys.stderr or open(os.devnull, "w")
+    for each in STOPPING:
+        # Whoever began this may have a signal ignored, as nohup does.
+        if signal.getsignal(each) != signal.SIG_IGN:
+            signal.signal(each, stop)
     try:
         if sys.stdout is None:
             raise Fault("standard output is closed")
@@ -911,8 +940,8 @@ def run(main):
         sys.exit(status)
     except Fault as fault:
         told, status = str(fault), 1
-    except KeyboardInterrupt:
-        told, status = None, 130
+    except Stopped as stopped:
+        told, status = None, 128 + stopped.number
     except BrokenPipeError:
         # Whoever read the output has enough of it, as head does.
         told, status = None, 141
